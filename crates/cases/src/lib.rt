@@ -1,0 +1,5 @@
+// What the programs that replay vectors share. `input` reads a stream of cases: lines, words, numbers and byte strings. `output` makes the
+// text of an answer in a buffer, and writes it.
+
+pub mod input;
+pub mod output;

@@ -1,0 +1,8 @@
+-- The laws, each file after those that it needs.
+pub mod VarintLaws
+pub mod ReadingLaws
+pub mod StateLaws
+pub mod CompactLaws
+pub mod EncodingLaws
+pub mod FieldLaws
+pub mod RoundTrip
