@@ -1,0 +1,538 @@
+//! Makes the cases of `crates/lists_cases` and what must be printed for each. The answers are those of the Rust original:
+//! `encoding.rs` with `proto.rs` beside it, and three functions taken out of `accumulator.rs`. Where document 01 gives the
+//! answer, it stands here as an expectation, and a difference stops the run.
+
+mod cases;
+#[allow(dead_code)]
+mod encoding;
+#[allow(dead_code)]
+mod proto;
+
+mod taken {
+    use crate::encoding::Sparse;
+    include!("taken.rs");
+
+    pub fn sort(values: &mut [u32]) {
+        sort_runs(values);
+    }
+
+    pub fn raise(registers: &mut [u8], enc: Sparse, v: u32) {
+        set_register(registers, enc, v);
+    }
+
+    pub fn larger(target: &mut [u8], source: &[u8]) {
+        max_into(target, source);
+    }
+}
+
+use cases::error::{self, Error};
+use cases::{hex, unhex, Cases};
+use encoding::{Normal, Sparse};
+use std::collections::BTreeSet;
+
+/// Document 01's number for a message of the original.
+fn number(e: &Error) -> u8 {
+    match e {
+        Error::CorruptSparseData("truncated varint") => 18,
+        Error::CorruptSparseData("varint too long") => 19,
+        Error::CorruptSparseData("value out of range") => 20,
+        other => panic!("no number for {other:?}"),
+    }
+}
+
+/// A list in a case or an answer.
+fn text(list: &[u32]) -> String {
+    if list.is_empty() {
+        return ".".to_string();
+    }
+    list.iter().map(u32::to_string).collect::<Vec<_>>().join(",")
+}
+
+// ---- the original's answers
+
+fn decode_answer((p, s): Pair, bytes: &[u8]) -> String {
+    let mut out = Vec::new();
+    match encoding::decode_validated_into(bytes, Sparse::new(p, s), &mut out) {
+        Ok(()) => text(&out),
+        Err(e) => format!("refused {}", number(&e)),
+    }
+}
+
+fn value_answer((p, s): Pair, v: u32) -> String {
+    let enc = Sparse::new(p, s);
+    let mut answer = format!("{} {}", u8::from(enc.is_rho_encoded(v)), u8::from(enc.is_valid(v)));
+    if enc.is_valid(v) {
+        answer += &format!(" {} {} {}", enc.decode_sparse_index(v), enc.decode_normal_index(v), enc.decode_normal_rho_w(v));
+        for q in (4..p).rev() {
+            let to = Normal { precision: q };
+            answer += &format!(" {}:{}", enc.decode_and_downgrade_normal_index(v, to), enc.decode_and_downgrade_normal_rho_w(v, to));
+        }
+    }
+    answer
+}
+
+fn merged((p, s): Pair, a: &[u32], b: &[u32]) -> (Vec<u32>, usize) {
+    let mut out = Vec::new();
+    let bytes = encoding::merge_dedupe_into(Sparse::new(p, s), a, b, &mut out);
+    assert_eq!(bytes, encoding::encode_sparse(&out).len());
+    (out, bytes)
+}
+
+/// Registers lowered from p to q and put into others of q, or of p where p is q.
+fn larger_of(p: i32, q: i32, source: &[u8], target: &mut [u8]) {
+    let (source, target) = (&source[..1 << p], &mut target[..1 << q]);
+    if p == q {
+        taken::larger(target, source);
+    } else {
+        encoding::downgrade_registers_max_into(source, p, target, q);
+    }
+}
+
+/// All bytes, how many of the registers of precision p are not zero, and the largest.
+fn registers_answer(p: i32, bytes: &[u8]) -> String {
+    let registers = &bytes[..1 << p];
+    let count = registers.iter().filter(|r| **r != 0).count();
+    format!("{} {count} {}", hex(bytes), registers.iter().max().expect("a register"))
+}
+
+// ---- numbers by chance, the same in each run
+
+struct Chance(u64);
+
+impl Chance {
+    /// A number below n (xorshift, Marsaglia 2003).
+    fn below(&mut self, n: u64) -> u64 {
+        self.0 ^= self.0 << 13;
+        self.0 ^= self.0 >> 7;
+        self.0 ^= self.0 << 17;
+        (self.0 >> 11) % n
+    }
+
+    fn byte(&mut self) -> u8 {
+        self.below(256) as u8
+    }
+}
+
+type Pair = (i32, i32);
+
+fn mark((p, s): Pair) -> u32 {
+    1 << s.max(p + 6)
+}
+
+/// The marked value of an index and an m.
+fn marked(pair: Pair, index: u32, m: u32) -> u32 {
+    mark(pair) + 64 * index + m
+}
+
+struct Made {
+    all: Cases,
+    chance: Chance,
+}
+
+impl Made {
+    fn pair(&mut self) -> Pair {
+        let p = 4 + self.chance.below(21) as i32;
+        (p, p + self.chance.below((26 - p) as u64) as i32)
+    }
+
+    /// A valid value; indices below `few`, so that some meet, and low bits that are zero now and then.
+    fn valid(&mut self, pair: Pair, few: u64) -> u32 {
+        let (p, s) = pair;
+        let v = if self.chance.below(2) == 0 {
+            let index = self.chance.below(few.min(1 << p)) as u32;
+            let index = if self.chance.below(2) == 0 { index } else { (1 << p) - 1 - index };
+            marked(pair, index, self.chance.below((66 - s) as u64) as u32)
+        } else {
+            let v = self.chance.below((few * 4).min(1 << s)) as u32;
+            let v = if self.chance.below(3) == 0 { v } else { (1 << s) - 1 - v };
+            if self.chance.below(3) == 0 { v >> (s - p) << (s - p) } else { v }
+        };
+        assert!(Sparse::new(p, s).is_valid(v), "{v} at {pair:?}");
+        v
+    }
+
+    /// Valid values in order, repeats among them.
+    fn list(&mut self, pair: Pair, n: u64, few: u64) -> Vec<u32> {
+        let mut list: Vec<u32> = (0..n).map(|_| self.valid(pair, few)).collect();
+        list.sort();
+        list
+    }
+
+    fn registers(&mut self, p: i32, most: u64, often: u64) -> Vec<u8> {
+        (0..1 << p).map(|_| if self.chance.below(often) == 0 { 1 + self.chance.below(most) as u8 } else { 0 }).collect()
+    }
+
+    fn value(&mut self, pair: Pair, v: u32) -> String {
+        let answer = value_answer(pair, v);
+        self.all.case("v", &format!("{} {} {v}", pair.0, pair.1), &answer);
+        answer
+    }
+
+    fn decode(&mut self, pair: Pair, bytes: &[u8]) -> String {
+        let answer = decode_answer(pair, bytes);
+        self.all.case("d", &format!("{} {} {}", pair.0, pair.1, hex(bytes)), &answer);
+        answer
+    }
+
+    /// A list's bytes in hexadecimal (blanks are dropped).
+    fn d(&mut self, pair: Pair, text: &str) {
+        self.decode(pair, &unhex(text));
+    }
+
+    /// A list whose answer a document gives.
+    fn told(&mut self, pair: Pair, text: &str, answer: &str) {
+        assert_eq!(self.decode(pair, &unhex(text)), answer, "{text}");
+    }
+
+    /// A list as the original writes it, or would write it: values that are not valid, too.
+    fn decode_list(&mut self, pair: Pair, list: &[u32]) {
+        self.decode(pair, &encoding::encode_sparse(list));
+    }
+
+    fn gap(&mut self, delta: u32) -> usize {
+        let n = encoding::asked_gap_len(delta);
+        self.all.case("g", &delta.to_string(), &n.to_string());
+        n
+    }
+
+    fn encode(&mut self, list: &[u32]) -> String {
+        let bytes = encoding::encode_sparse(list);
+        let answer = format!("{} {}", bytes.len(), hex(&bytes));
+        self.all.case("e", &text(list), &answer);
+        answer
+    }
+
+    fn sort(&mut self, list: &[u32]) {
+        let mut sorted = list.to_vec();
+        taken::sort(&mut sorted);
+        self.all.case("s", &text(list), &text(&sorted));
+    }
+
+    fn merge(&mut self, pair: Pair, a: &[u32], b: &[u32]) {
+        let (list, bytes) = merged(pair, a, b);
+        self.all.case("m", &format!("{} {} {} {}", pair.0, pair.1, text(a), text(b)), &format!("{} {bytes}", text(&list)));
+    }
+
+    /// Values inserted into what a merge of `union` left, whose byte count is larger than its written length by `surplus`.
+    fn insert(&mut self, pair: Pair, union: &[u32], incoming: &[u32], surplus: usize) {
+        let (mut list, mut bytes) = merged(pair, union, &[]);
+        bytes += surplus;
+        let operands = format!("{} {} {bytes} {} {}", pair.0, pair.1, text(&list), text(incoming));
+        encoding::insert_dedupe(Sparse::new(pair.0, pair.1), &mut list, incoming, &mut bytes);
+        assert_eq!(list, merged(pair, union, incoming).0);
+        self.all.case("i", &operands, &format!("{} {bytes}", text(&list)));
+    }
+
+    /// How many sparse indices what a merge left has: the original's own count is private to its accumulator.
+    fn count(&mut self, pair: Pair, list: &[u32]) {
+        let (list, _) = merged(pair, list, &[]);
+        let enc = Sparse::new(pair.0, pair.1);
+        let indices: BTreeSet<u32> = list.iter().map(|v| enc.decode_sparse_index(*v)).collect();
+        self.all.case("n", &format!("{} {} {}", pair.0, pair.1, text(&list)), &indices.len().to_string());
+    }
+
+    /// Listed values raise registers of precision q.
+    fn set(&mut self, pair: Pair, q: i32, bytes: &[u8], list: &[u32]) -> String {
+        let (p, s) = pair;
+        let enc = Sparse::new(p, s);
+        let operands = format!("{p} {s} {q} {} {}", hex(bytes), text(list));
+        let mut bytes = bytes.to_vec();
+        for v in list {
+            if p == q {
+                taken::raise(&mut bytes, enc, *v);
+            } else {
+                let to = Normal { precision: q };
+                let (i, r) = (enc.decode_and_downgrade_normal_index(*v, to), enc.decode_and_downgrade_normal_rho_w(*v, to));
+                bytes[i] = bytes[i].max(r);
+            }
+        }
+        let answer = registers_answer(q, &bytes);
+        self.all.case("r", &operands, &answer);
+        answer
+    }
+
+    fn larger(&mut self, p: i32, q: i32, source: &[u8], target: &[u8]) {
+        let mut after = target.to_vec();
+        larger_of(p, q, source, &mut after);
+        self.all.case("x", &format!("{p} {q} {} {}", hex(source), hex(target)), &registers_answer(q, &after));
+    }
+
+    /// Lowered where they lie: the freed registers are zero, and the bytes past all of them as they were.
+    fn lower(&mut self, p: i32, q: i32, bytes: &[u8]) {
+        let mut after = bytes.to_vec();
+        if q < p {
+            after[..1 << p].fill(0);
+            larger_of(p, q, bytes, &mut after);
+        }
+        self.all.case("l", &format!("{p} {q} {}", hex(bytes)), &registers_answer(q, &after));
+    }
+}
+
+// ---- cases
+
+fn examples(made: &mut Made) {
+    made.all.remark("Document 01, E1 to E4: 33 is register 1, rank 5; 65667 is register 2, rank 8, lowers to 1:9 and 0:1. E9: plain 1 has rank 64");
+    let e1 = made.value((10, 15), 33);
+    assert!(e1.starts_with("0 1 33 1 5 "), "{e1}");
+    let e2 = made.value((10, 15), 65667);
+    assert!(e2.starts_with("1 1 64 2 8 1:9 0:1 "), "{e2}");
+    let e9 = made.value((10, 10), 1);
+    assert!(e9.starts_with("0 1 1 1 64 "), "{e9}");
+    made.all.remark("E5, E6, E8: the gap 65634, the lengths of 127 and 128, fifth bytes 0f and 10");
+    assert_eq!(made.encode(&[33, 65667]), "4 21e28004");
+    assert_eq!((made.gap(127), made.gap(128)), (1, 2));
+    made.told((10, 15), "808080800f", "refused 20");
+    made.told((10, 15), "8080808010", "refused 19");
+    made.all.remark("What is refused where it is read, and what at the end");
+    made.told((10, 15), "b3800480", "refused 20");
+    made.told((10, 15), "80800280", "refused 18");
+    made.told((10, 15), "808080800f80", "refused 18");
+    made.told((10, 15), "21e28004", "33,65667");
+}
+
+fn values(made: &mut Made) {
+    made.all.remark("A valid value for each pair of precisions");
+    for p in 4..=24 {
+        for s in p..=25 {
+            let v = made.valid((p, s), 1 << 25);
+            made.value((p, s), v);
+        }
+    }
+    made.all.remark("The edges: of plain and marked values, of m, of the index, bits above the mark");
+    for pair in [(10, 15), (10, 10), (24, 25)] {
+        let (p, s) = pair;
+        let m = mark(pair);
+        let most = (65 - s) as u32;
+        for v in [0, (1 << s) - 1, 1 << s, m - 1, m, m + most, m + most + 1, marked(pair, (1 << p) - 1, most), m + (64 << p), 2 * m + 1, 3 * m] {
+            made.value(pair, v);
+        }
+    }
+    made.value((4, 4), u32::MAX);
+    made.value((24, 25), u32::MAX - (1 << 30));
+    made.all.remark("Equal precisions: rank 0 is marked with m = 0, and each plain value has a rank of its own");
+    for v in [0, 1, 2, 8, 15, 1024, 1025, 1024 + 61, 1024 + 62] {
+        made.value((4, 4), v);
+    }
+}
+
+fn decoding(made: &mut Made) {
+    let pair = (10, 15);
+    made.all.remark("Lists of values by chance");
+    for n in 0..22 {
+        let pair = made.pair();
+        let list = made.list(pair, n % 9, 1 << (2 + n));
+        made.decode_list(pair, &list);
+    }
+    made.all.remark("Repeats, zero gaps, longer spellings; several marked values of one index; a plain and a marked value of one index");
+    for text in ["", "00", "0000", "210000", "a100", "a1808000", "a180808000", "8080808000", "21e2808400", "8080808000 21", "8080048000 80808000"] {
+        made.d(pair, text);
+    }
+    for list in [vec![marked(pair, 3, 0), marked(pair, 3, 0), marked(pair, 3, 7), marked(pair, 3, 50)], vec![96, marked(pair, 3, 7)], vec![5, 5, 5, 32767, marked(pair, 1023, 50)]] {
+        made.decode_list(pair, &list);
+    }
+    made.all.remark("Equal precisions");
+    for list in [vec![0, 1, 1023, 65536], vec![1, marked((10, 10), 1, 0), marked((10, 10), 1, 55)], vec![1024], vec![marked((10, 10), 1, 56)]] {
+        made.decode_list((10, 10), &list);
+    }
+    made.all.remark("Each front of a list, cut gaps");
+    let list = encoding::encode_sparse(&[33, 300, 32767, marked(pair, 600, 4)]);
+    for n in 0..list.len() {
+        made.decode(pair, &list[..n]);
+    }
+    for text in ["80", "ff", "8080", "808080", "80808080", "ffffffff", "0080", "2180808080"] {
+        made.d(pair, text);
+    }
+    made.all.remark("Fifth bytes");
+    for fifth in ["00", "01", "07", "08", "0f", "10", "1f", "20", "40", "7f", "80", "8f", "ff"] {
+        made.d(pair, &format!("80808080{fifth}"));
+    }
+    for fifth in ["00", "0f", "10", "80"] {
+        made.d(pair, &format!("8080808000 81808080{fifth} 00"));
+    }
+    made.all.remark("Sums that wrap, alone, before a cut gap, before a gap that is too long; and the same gaps without the wrap");
+    for text in ["8080808008 8080808008", "8080808008 8080808008 80", "8080808008 ffffffff0f", "8080808008 8080808008 8080808010", "8080808008 80", "8080808008 8080808010", "ffffffff0f 01", "0f f1ffffff0f"] {
+        made.d(pair, text);
+    }
+    made.all.remark("Past the range: an index of s bits or more below the mark, one of p bits or more above it, m, bits above the mark; then something valid, or cut");
+    for pair in [(10, 15), (4, 4), (4, 25), (24, 24), (24, 25)] {
+        let (p, s) = pair;
+        let m = mark(pair);
+        let top = marked(pair, (1 << p) - 1, (65 - s) as u32);
+        for list in [vec![(1 << s) - 1, m, top], vec![1 << s, top], vec![top + 1], vec![m + (64 << p)], vec![2 * m], vec![2 * m, 3 * m]] {
+            made.decode_list(pair, &list);
+        }
+        made.decode(pair, &[encoding::encode_sparse(&[2 * m]), vec![0x80]].concat());
+    }
+    made.all.remark("Each bit of a list turned over");
+    for at in 0..4 {
+        for bit in 0..8 {
+            let mut bytes = unhex("21e28004");
+            bytes[at] ^= 1 << bit;
+            made.decode(pair, &bytes);
+        }
+    }
+    made.all.remark("Bytes by chance");
+    for n in 0..18 {
+        let pair = made.pair();
+        let bytes: Vec<u8> = (0..1 + n / 3).map(|_| if made.chance.below(2) == 0 { made.chance.byte() } else { made.chance.byte() & 0x7f }).collect();
+        made.decode(pair, &bytes);
+    }
+}
+
+fn writing(made: &mut Made) {
+    made.all.remark("The first and the last gap of each length");
+    for delta in [0, 1, 16383, 16384, 2097151, 2097152, 268435455, 268435456, u32::MAX] {
+        made.gap(delta);
+    }
+    for list in [vec![], vec![0], vec![0, 0, 0], vec![127, 255, 16638, 33022, 2130173, 4227325, 272662780, 541098236], vec![u32::MAX], vec![7, u32::MAX, u32::MAX]] {
+        made.encode(&list);
+    }
+    made.all.remark("Lists by chance");
+    for n in 0..12 {
+        let pair = made.pair();
+        let list = made.list(pair, 4 + n, 1 << (2 * n));
+        made.encode(&list);
+    }
+}
+
+fn sorting(made: &mut Made) {
+    made.all.remark("Sorting: none, one, two, equal ones, the largest; short lists and long ones around the length from which runs are merged; in order, backwards, two runs");
+    for list in [vec![], vec![7], vec![1, 2], vec![2, 1], vec![5, 5, 5, 5], vec![u32::MAX, 0, u32::MAX, 1 << 31]] {
+        made.sort(&list);
+    }
+    for n in [5, 23, 24, 25, 47, 48, 50, 97] {
+        let list: Vec<u32> = (0..n).map(|_| made.chance.below(1000) as u32).collect();
+        made.sort(&list);
+    }
+    for n in [24, 60] {
+        made.sort(&(0..n).collect::<Vec<_>>());
+        made.sort(&(0..n).rev().collect::<Vec<_>>());
+        made.sort(&(0..n).map(|i| i % (n / 2) * 3 + i / (n / 2)).collect::<Vec<_>>());
+        made.sort(&(0..n).map(|i| i % 3).collect::<Vec<_>>());
+    }
+}
+
+fn merging(made: &mut Made) {
+    let pair = (10, 15);
+    let m = |index, m| marked(pair, index, m);
+    let sets = [
+        (vec![], vec![]),
+        (vec![0], vec![]),
+        (vec![], vec![0, 0]),
+        (vec![1, 3, 5], vec![2, 4, 6]),
+        (vec![1, 2, 3], vec![1, 2, 3]),
+        (vec![1, 1, 2, 2], vec![2, 3, 3]),
+        (vec![1, 2, 3], vec![m(1, 0), m(2, 5)]),
+        (vec![m(1, 1), m(1, 9), m(2, 0)], vec![m(1, 5), m(1, 9), m(2, 50)]),
+        (vec![32, m(1, 4)], vec![32, 64, m(1, 3), m(2, 2)]),
+        (vec![m(0, 0), m(1023, 50)], vec![0, 32767]),
+        (vec![32767], vec![m(0, 0)]),
+    ];
+    made.all.remark("Merging: none, interleaved, equal, repeats; several marked values of one index, a plain and a marked value of one index");
+    for (a, b) in &sets {
+        made.merge(pair, a, b);
+        if a != b {
+            made.merge(pair, b, a);
+        }
+    }
+    let p10 = |index, m| marked((10, 10), index, m);
+    made.merge((10, 10), &[1, p10(1, 0)], &[1, 2, p10(1, 55), p10(2, 0)]);
+    made.all.remark("Lists by chance: of few indices, then of many");
+    for n in 0..24 {
+        let pair = made.pair();
+        let few = if n < 16 { 3 } else { 1 << 25 };
+        let a = made.list(pair, n % 8, few);
+        let b = made.list(pair, (n + 3) % 7, few);
+        made.merge(pair, &a, &b);
+    }
+    for few in [8, 40] {
+        let (a, b) = (made.list((6, 9), 50, few), made.list((6, 9), 40, few));
+        made.merge((6, 9), &a, &b);
+    }
+    made.all.remark("Inserting into what a merge left: the same lists, the byte count that of the list or more");
+    for (i, (a, b)) in sets.iter().enumerate() {
+        made.insert(pair, a, b, i % 3);
+        made.insert(pair, b, a, 0);
+    }
+    made.insert(pair, &[m(1, 0), m(1, 62 - 15), m(2, 0)], &[m(1, 48)], 0);
+    made.insert(pair, &[100, 300, 16683], &[172, 173], 0);
+    made.insert((10, 10), &[1, p10(1, 0), p10(3, 0)], &[0, 1, 2, p10(1, 55), p10(2, 0)], 1000);
+    for n in 0..20 {
+        let pair = made.pair();
+        let few = if n < 14 { 3 } else { 1 << 25 };
+        let a = made.list(pair, 2 + n % 9, few);
+        let b = made.list(pair, (n + 3) % 5, few);
+        made.insert(pair, &a, &b, n as usize % 4 * 5);
+    }
+    let (a, b) = (made.list((6, 9), 60, 30), made.list((6, 9), 20, 30));
+    made.insert((6, 9), &a, &b, 0);
+    made.all.remark("Distinct sparse indices of what a merge left: a plain and a marked value of one index count once");
+    for (a, b) in &sets {
+        made.count(pair, &merged(pair, a, b).0);
+    }
+    made.count((10, 10), &[1, 2, p10(1, 0), p10(3, 1)]);
+    for n in 0..14 {
+        let pair = if n % 2 == 0 { (4 + n as i32 % 3, 6) } else { made.pair() };
+        let list = made.list(pair, 3 + n, 4);
+        made.count(pair, &list);
+    }
+}
+
+fn registers(made: &mut Made) {
+    made.all.remark("Registers of a list: none, the register of 0, a larger one that stays, a byte past them that stays");
+    made.set((4, 9), 4, &[0; 16], &[]);
+    made.set((4, 9), 4, &[0; 16], &[0]);
+    made.set((4, 9), 4, &[9; 16], &[0, 33, 511, marked((4, 9), 1, 56), marked((4, 9), 15, 0)]);
+    made.set((4, 9), 4, &[3; 17], &[511, marked((4, 9), 15, 56)]);
+    made.all.remark("A listed value of rank 0: its register stays 0, and one bit lower it is 1");
+    assert!(made.set((5, 5), 5, &[0; 32], &[2048]).ends_with(" 0 0"));
+    assert!(made.set((5, 5), 4, &[0; 16], &[2048]).ends_with(" 1 1"));
+    made.all.remark("Lists by chance, at their own precision and lower");
+    for p in 4..=24 {
+        let pair = (p, p + made.chance.below((26 - p) as u64) as i32);
+        for q in if p < 7 { 4..=p } else { 4 + p % 2..=4 + p % 2 } {
+            let list = made.list(pair, 6, 1 << 25);
+            let start = if p % 2 == 0 { vec![0; 1 << q] } else { made.registers(q, 12, 3) };
+            made.set(pair, q, &start, &list);
+        }
+    }
+    made.all.remark("The larger registers: at one precision, then lowered, the source's or the target's bytes being more");
+    for p in [4, 5, 6] {
+        let (a, b) = (made.registers(p, 60, 2), made.registers(p, 60, 2));
+        made.larger(p, p, &a, &b);
+    }
+    made.larger(4, 4, &[255; 16], &[0; 17]);
+    for (p, q) in [(5, 4), (6, 5), (6, 4), (7, 4), (8, 4), (5, 3), (4, 0)] {
+        for often in [1, 4, 40] {
+            let (a, b) = (made.registers(p, (88 - p) as u64, often), made.registers(q, 8, 4));
+            made.larger(p, q, &a, &b);
+        }
+    }
+    made.larger(5, 4, &[254; 33], &[7; 18]);
+    made.larger(6, 4, &[0; 64], &[0; 16]);
+    made.all.remark("Lowered where they lie");
+    for (p, q) in [(4, 4), (5, 4), (6, 5), (6, 4), (7, 4), (5, 3), (4, 0)] {
+        for often in [1, 4, 30] {
+            let a = made.registers(p, (88 - p) as u64, often);
+            made.lower(p, q, &a);
+        }
+    }
+    for offset in 0..8 {
+        let mut a = vec![0; 33];
+        a[16 + offset] = 5;
+        a[32] = 77;
+        made.lower(5, 2 + offset as i32 % 3, &a);
+    }
+}
+
+fn main() {
+    let mut made = Made { all: Cases::default(), chance: Chance(0x9abe_68bf_8701_5eed) };
+    examples(&mut made);
+    values(&mut made);
+    decoding(&mut made);
+    writing(&mut made);
+    sorting(&mut made);
+    merging(&mut made);
+    registers(&mut made);
+    made.all.write();
+}

@@ -1,0 +1,655 @@
+-- Laws of reading lists: a gap byte by byte, one value after another, what an accepted list is, and that what is written is read back.
+use Prim.Native.Nat.{ℕ, zero, suc, _+_, _*_, _-_, _/_, _%_, _^_, _<_, _≤_}
+use mathlib.Core.Path.{_≡_, refl, sym, ap, ap₂, _∙_, subst}
+use mathlib.Core.List.{List, [], _∷_, _++_, append-assoc, append-nil}
+use mathlib.Core.Bool.{Bool, true, false, cond, _&&_, _||_, and-assoc, and-true, true≢false}
+use mathlib.Core.Logic.{_⊎_, inl, inr, ⊎-elim}
+use native.Mathlib.Nat.{mul-add, mul-comm, mul-assoc}
+use native.Mathlib.Numerals.{add-one}
+use native.Mathlib.Omega.{arith}
+use lib.Arith.{digits-lt}
+use lib.ListN.{length, set, drop, take, getD, drop-of-length-le, length-drop, length-append}
+use lib.Seq.{length-take-le, take-suc-set}
+use lib.Pow.{pow-pos}
+use lib.Dec.{ltb, leb}
+use borrow.Author.Tests.{lt-ltb, le-ltb, le-leb, ltb-true, ltb-false, leb-true}
+use Rattle.wire.specs.Reading.{Read, got, refused, andThen}
+use Rattle.wire.specs.Varints.{varintOf, varintBytes, payload}
+use Rattle.wire.proofs.VarintLaws.{side, weighed, varint-none, varint-end, varint-last, varint-more, len-last, len-more, len-pos, there-and-back}
+use denote.Enum.Declared as E
+use Rattle.lists.proofs.decoding.Gap.{enum as gap-enum}
+use Rattle.lists.proofs.decoding.Step.{enum as step-enum}
+use Rattle.lists.specs.declared.decoding.Gap.{Gap}
+use Rattle.lists.specs.declared.decoding.Gap.the-variants.{Value, Cut, Long}
+use Rattle.lists.specs.declared.decoding.Step.{Step}
+use Rattle.lists.specs.declared.decoding.Step.the-variants.{Next, Refused as StepRefused}
+use Rattle.lists.specs.declared.decoding.Decoded.the-variants.{Done, Refused}
+use Rattle.lists.specs.Values.{mark, marked, valid, Pair}
+use Rattle.lists.specs.Sorting.{notBefore, ascends}
+use Rattle.lists.specs.Lists.{gapAnswer, gapOf, GapPost, gapRefusal, refusedHere, before, sumsOf, stepOf, stepRefusal, StepPost, allValid, decodeOf, Decodes, encodeFrom, encodeList, writtenFrom, written}
+use Rattle.lists.proofs.ValueLaws.{decided, mark-sparse, below-mark, plain-valid, valid-plain, marked-valid, valid-index, valid-low, valid-lt}
+
+-- ---- a gap, byte by byte
+
+gap-is : (l : List ℕ) (r : Read ℕ) → varintOf 5 l ≡ r → gapAnswer r ≡ gapOf l
+unfolding gapOf
+gap-is l r e = ap gapAnswer (sym e)
+
+gap-small : (v : ℕ) (rest : List ℕ) → v < 2 ^ 32 → gapAnswer (got v rest) ≡ got v rest
+gap-small v rest h = rw (lt-ltb v (2 ^ 32) h)
+
+gap-large : (v : ℕ) (rest : List ℕ) → 2 ^ 32 ≤ v → gapAnswer (got v rest) ≡ refused 19
+gap-large v rest h = rw (le-ltb v (2 ^ 32) h)
+
+module _ {s : List ℕ} {at : ℕ} where
+  cut-post : varintOf 5 (drop at s) ≡ refused 3 → GapPost s at Cut
+  cut-post e = record { answer = gap-is (drop at s) (refused 3) e; inside = tt }
+
+  long-post : varintOf 5 (drop at s) ≡ refused 4 → GapPost s at Long
+  long-post e = record { answer = gap-is (drop at s) (refused 4) e; inside = tt }
+
+  high-post : (v : ℕ) (rest : List ℕ) → varintOf 5 (drop at s) ≡ got v rest → 2 ^ 32 ≤ v → GapPost s at Long
+  high-post v rest e h = record { answer = sym (gap-large v rest h) ∙ gap-is (drop at s) (got v rest) e; inside = tt }
+
+  value-post : (v next : ℕ) → varintOf 5 (drop at s) ≡ got v (drop next s) → v < 2 ^ 32 → at < next → next ≤ length s → GapPost s at (Value v next)
+  value-post v next e h lo hi =
+      record { answer = sym (gap-small v (drop next s) h) ∙ gap-is (drop at s) (got v (drop next s)) e; inside = (lo, hi) }
+
+-- b is the byte at `at`, as the reader has it
+module _ (s : List ℕ) (at n : ℕ) {b : ℕ} (inside : at < length s) (e : b ≡ getD s at 0) where
+  byte-last : b < 128 → varintOf (suc n) (drop at s) ≡ got b (drop (at + 1) s)
+  byte-last l = varint-last s at n inside (subst (λ (y : ℕ). y < 128) e l) ∙ ap (λ (y : ℕ). got y (drop (at + 1) s)) (sym e)
+
+  byte-more : 128 ≤ b → b < 256 → varintOf (suc n) (drop at s) ≡ payload (b - 128) (varintOf n (drop (at + 1) s))
+  byte-more l u =
+      varint-more s at n inside (subst (λ (y : ℕ). 128 ≤ y) e l)
+      ∙ ap (λ (y : ℕ). payload y (varintOf n (drop (at + 1) s))) (let f : getD s at 0 % 128 ≡ b - 128 = omega arith in f)
+
+-- Where the reader of a gap of more than one byte is: those before `at` have the value x, and what the rest reads as, in at most n bytes,
+-- weighs w.
+pub record Begun (s : List ℕ) (start at n w x : ℕ) : Type 0 where
+  pub on : start < at
+  pub small : x < w
+  pub whole : varintOf 5 (drop start s) ≡ weighed w x (varintOf n (drop at s))
+
+-- One payload more.
+weighed-more : (w x y : ℕ) (r : Read ℕ) → weighed w x (payload y r) ≡ weighed (w * 128) (x + y * w) r
+weighed-more w x y (got v l) =
+    ap (λ (z : ℕ). got z l)
+    (let e : x + w * (y + 128 * v) ≡ x + y * w + w * 128 * v = omega (arith, mul-add w y (128 * v), mul-comm y w, mul-assoc w 128 v) in e)
+weighed-more w x y (refused n) = refl
+
+-- A first byte of 128 or more has the lowest payload.
+weighed-first : (y : ℕ) (r : Read ℕ) → payload y r ≡ weighed 128 y r
+weighed-first y (got v l) = refl
+weighed-first y (refused n) = refl
+
+-- The first byte.
+module _ {s : List ℕ} {at : ℕ} where
+  pub gap-end : length s ≤ at → GapPost s at Cut
+  gap-end h = cut-post (varint-end s at 4 h)
+
+  module _ {b : ℕ} (inside : at < length s) (e : b ≡ getD s at 0) where
+    pub gap-one : b < 128 → GapPost s at (Value b (at + 1))
+    gap-one l = value-post b (at + 1) (byte-last s at 4 inside e l) (omega arith) (omega arith) (omega arith)
+
+    pub gap-begun : 128 ≤ b → b < 256 → Begun s at (at + 1) 4 128 (b - 128)
+    gap-begun l u =
+        record { on = omega arith; small = omega arith; whole = byte-more s at 4 inside e l u ∙ weighed-first (b - 128) (varintOf 4 (drop (at + 1) s)) }
+
+-- The others.
+module _ {s : List ℕ} {start at w x : ℕ} (n : ℕ) (g : Begun s start at (suc n) w x) where
+  pub begun-end : length s ≤ at → GapPost s start Cut
+  begun-end h = cut-post (g .whole ∙ ap (weighed w x) (varint-end s at n h))
+
+  module _ {b : ℕ} (inside : at < length s) (e : b ≡ getD s at 0) where
+    last-is : b < 128 → varintOf 5 (drop start s) ≡ got (x + b * w) (drop (at + 1) s)
+    last-is l =
+        g .whole ∙ ap (weighed w x) (byte-last s at n inside e l) ∙ ap (λ (y : ℕ). got (x + y) (drop (at + 1) s)) (mul-comm w b)
+
+    pub begun-last : b < 128 → x + b * w < 2 ^ 32 → GapPost s start (Value (x + b * w) (at + 1))
+    begun-last l h = value-post (x + b * w) (at + 1) (last-is l) h (omega (arith, g .on)) (omega arith)
+
+    more-is : 128 ≤ b → b < 256 → varintOf 5 (drop start s) ≡ weighed (w * 128) (x + (b - 128) * w) (varintOf n (drop (at + 1) s))
+    more-is l u = g .whole ∙ ap (weighed w x) (byte-more s at n inside e l u) ∙ weighed-more w x (b - 128) (varintOf n (drop (at + 1) s))
+
+    pub begun-more : 128 ≤ b → b < 256 → Begun s start (at + 1) n (w * 128) (x + (b - 128) * w)
+    begun-more l u =
+        record {
+          on = omega (arith, g .on);
+          small =
+              let d = digits-lt {q = b - 128} {m = 128} (let h : b - 128 < 128 = omega arith in h) (g .small) in
+              omega (arith, d, mul-comm 128 w);
+          whole = more-is l u;
+        }
+
+-- A fifth byte with a bit of f0: of 16 to 127 it makes a value of 2^32 or more, and of 128 or more one of more than five bytes.
+pub begun-long : {s : List ℕ} {start at x b : ℕ} → Begun s start at 1 0x1000_0000 x → at < length s → b ≡ getD s at 0 → 16 ≤ b → b < 256
+    → GapPost s start Long
+begun-long {s} {start} {at} {x} {b} g inside e h u =
+    ⊎-elim (λ (l : b < 128). high-post (x + b * 0x1000_0000) (drop (at + 1) s) (last-is 0 g inside e l) (omega arith))
+    (λ (l : 128 ≤ b). long-post (more-is 0 g inside e l u ∙ ap (weighed 0x8_0000_0000 (x + (b - 128) * 0x1000_0000)) (varint-none (drop (at + 1) s))))
+    (side b 128)
+
+-- ---- tests
+
+and-left : (a b : Bool) → (a && b) ≡ true → a ≡ true
+and-left true b e = refl
+and-left false b e = e
+
+and-right : (a b : Bool) → (a && b) ≡ true → b ≡ true
+and-right true b e = e
+and-right false b e = absurd (true≢false (sym e))
+
+both : {a b : Bool} → a ≡ true → b ≡ true → (a && b) ≡ true
+both e f = ap₂ (λ (x y : Bool). x && y) e f
+
+or-left : (a b : Bool) → (a || b) ≡ false → a ≡ false
+or-left true b e = e
+or-left false b e = refl
+
+or-right : (a b : Bool) → (a || b) ≡ false → b ≡ false
+or-right true b e = absurd (true≢false e)
+or-right false b e = e
+
+-- What is refused where it is read, by the code's questions.
+module _ (p s last v : ℕ) where
+  pub refused-less : v < last → true ≡ refusedHere p s last v
+  refused-less h = sym (ap (λ (t : Bool). t || (marked p s v && ltb (65 - s) (v % 64))) (lt-ltb v last h))
+
+  by-rank : last ≤ v → (marked p s v && ltb (65 - s) (v % 64)) ≡ refusedHere p s last v
+  by-rank h = sym (ap (λ (t : Bool). t || (marked p s v && ltb (65 - s) (v % 64))) (le-ltb v last h))
+
+  pub refused-plain : last ≤ v → marked p s v ≡ false → false ≡ refusedHere p s last v
+  refused-plain h m = sym (ap (λ (t : Bool). t && ltb (65 - s) (v % 64)) m) ∙ by-rank h
+
+  pub refused-rank : last ≤ v → marked p s v ≡ true → ltb (65 - s) (v % 64) ≡ refusedHere p s last v
+  refused-rank h m = sym (ap (λ (t : Bool). t && ltb (65 - s) (v % 64)) m) ∙ by-rank h
+
+  -- What is not.
+  not-less : refusedHere p s last v ≡ false → last ≤ v
+  not-less e = ltb-false v last (or-left (ltb v last) (marked p s v && ltb (65 - s) (v % 64)) e)
+
+  rank-fits : refusedHere p s last v ≡ false → marked p s v ≡ true → v % 64 ≤ 65 - s
+  rank-fits e m = ltb-false (65 - s) (v % 64) (refused-rank (not-less e) m ∙ e)
+
+  valid-taken : last ≤ v → valid p s v ≡ true → refusedHere p s last v ≡ false
+  valid-taken h t =
+      ⊎-elim (λ (m : marked p s v ≡ true). sym (refused-rank h m) ∙ le-ltb (65 - s) (v % 64) (valid-low p s v m t))
+      (λ (m : marked p s v ≡ false). sym (refused-plain h m)) (decided (marked p s v))
+
+-- ---- all values valid, from two of them
+
+small-valid : (p s v : ℕ) → v < 2 ^ s → valid p s v ≡ true
+small-valid p s v h = plain-valid p s v (below-mark p s v (omega (arith, mark-sparse p s))) h
+
+all-more : (p s : ℕ) (vs : List ℕ) (v : ℕ) → allValid p s (vs ++ (v ∷ [])) ≡ (allValid p s vs && valid p s v)
+unfolding allValid
+all-more p s [] v = and-true (valid p s v)
+all-more p s (w ∷ vs) v = ap (λ (t : Bool). valid p s w && t) (all-more p s vs v) ∙ sym (and-assoc (valid p s w) (allValid p s vs) (valid p s v))
+
+-- Of values that do not descend, and of which none was refused where it was read: the last one, and the last with the mark bit clear, or 0
+-- where there is none. Where these two are valid, all are: no plain value is above the last one, and no marked one's index.
+pub record Checked (p s : ℕ) (vs : List ℕ) (last plain : ℕ) : Type 0 where
+  pub below : plain ≤ last
+  pub clear : marked p s last ≡ false → last ≡ plain
+  pub rank : marked p s last ≡ true → last % 64 ≤ 65 - s
+  pub all : valid p s plain ≡ true → valid p s last ≡ true → allValid p s vs ≡ true
+  pub each : allValid p s vs ≡ true → (valid p s plain ≡ true) × (valid p s last ≡ true)
+
+checked-none : (p s : ℕ) → Checked p s [] 0 0
+unfolding allValid
+checked-none p s =
+    record {
+      below = omega arith;
+      clear = λ e. refl;
+      rank = λ e. omega arith;
+      all = λ e f. refl;
+      each = λ e. (small-valid p s 0 (pow-pos s), small-valid p s 0 (pow-pos s));
+    }
+
+module _ {p s : ℕ} {vs : List ℕ} {last plain : ℕ} (c : Checked p s vs last plain) (v : ℕ) (here : refusedHere p s last v ≡ false) where
+  -- What comes before a valid value with the mark bit clear is below 2^s, as that is.
+  before-plain : (w : ℕ) → w ≤ last → marked p s v ≡ false → valid p s v ≡ true → valid p s w ≡ true
+  before-plain w h m t = small-valid p s w (omega (arith, valid-plain p s v m t, not-less p s last v here))
+
+  before-marked : marked p s v ≡ true → valid p s plain ≡ true → valid p s v ≡ true → valid p s last ≡ true
+  before-marked m e t =
+      ⊎-elim
+      (λ (g : marked p s last ≡ true).
+      marked-valid p s last g (omega (arith, valid-index p s v m t, not-less p s last v here)) (c .rank g))
+      (λ (g : marked p s last ≡ false). subst (λ (x : ℕ). valid p s x ≡ true) (sym (c .clear g)) e) (decided (marked p s last))
+
+  whole-valid : allValid p s vs ≡ true → valid p s v ≡ true → allValid p s (vs ++ (v ∷ [])) ≡ true
+  whole-valid e f = all-more p s vs v ∙ both e f
+
+  front-valid : allValid p s (vs ++ (v ∷ [])) ≡ true → allValid p s vs ≡ true
+  front-valid e = and-left (allValid p s vs) (valid p s v) (sym (all-more p s vs v) ∙ e)
+
+  last-valid : allValid p s (vs ++ (v ∷ [])) ≡ true → valid p s v ≡ true
+  last-valid e = and-right (allValid p s vs) (valid p s v) (sym (all-more p s vs v) ∙ e)
+
+  more-plain : marked p s v ≡ false → Checked p s (vs ++ (v ∷ [])) v v
+  more-plain m =
+      record {
+        below = omega arith;
+        clear = λ e. refl;
+        rank = λ e. absurd (true≢false (sym e ∙ m));
+        all = λ (e : valid p s v ≡ true) (f : valid p s v ≡ true).
+            whole-valid (c .all (before-plain plain (c .below) m e) (before-plain last (omega arith) m e)) e;
+        each = λ (e : allValid p s (vs ++ (v ∷ [])) ≡ true). (last-valid e, last-valid e);
+      }
+
+  more-marked : marked p s v ≡ true → Checked p s (vs ++ (v ∷ [])) v plain
+  more-marked m =
+      record {
+        below = omega (arith, c .below, not-less p s last v here);
+        clear = λ e. absurd (true≢false (sym m ∙ e));
+        rank = λ e. rank-fits p s last v here m;
+        all = λ (e : valid p s plain ≡ true) (f : valid p s v ≡ true). whole-valid (c .all e (before-marked m e f)) f;
+        each = λ (e : allValid p s (vs ++ (v ∷ [])) ≡ true). (c .each (front-valid e) .0, last-valid e);
+      }
+
+  checked-more : {q : ℕ} → q ≡ cond (marked p s v) plain v → Checked p s (vs ++ (v ∷ [])) v q
+  checked-more e =
+      ⊎-elim
+      (λ (m : marked p s v ≡ true).
+      subst (λ (x : ℕ). Checked p s (vs ++ (v ∷ [])) v x) (sym (e ∙ ap (λ (t : Bool). cond t plain v) m)) (more-marked m))
+      (λ (m : marked p s v ≡ false).
+      subst (λ (x : ℕ). Checked p s (vs ++ (v ∷ [])) v x) (sym (e ∙ ap (λ (t : Bool). cond t plain v) m)) (more-plain m))
+      (decided (marked p s v))
+
+-- ---- one value
+
+-- What a gap makes of the value before.
+abbrev stepFrom : ℕ → ℕ → ℕ → ℕ → List ℕ → Read ℕ
+stepFrom p s last gap rest = let v = (last + gap) % 2 ^ 32 in cond (refusedHere p s last v) (refused 20) (got v rest)
+
+module _ (p s : ℕ) (bytes : List ℕ) (at last : ℕ) where
+  step-of : (r : Read ℕ) → r ≡ gapOf (drop at bytes) → andThen r (stepFrom p s last) ≡ stepOf p s (drop at bytes) last
+  unfolding stepOf
+  step-of r e = ap (λ (x : Read ℕ). andThen x (stepFrom p s last)) e
+
+  step-is : (gap next v : ℕ) → GapPost bytes at (Value gap next) → v ≡ (last + gap) % 2 ^ 32 → (t : Bool) → t ≡ refusedHere p s last v
+      → cond t (refused 20) (got v (drop next bytes)) ≡ stepOf p s (drop at bytes) last
+  step-is gap next v g e t f =
+      ap (λ (x : Bool). cond x (refused 20) (got v (drop next bytes))) f
+      ∙ ap (λ (x : ℕ). cond (refusedHere p s last x) (refused 20) (got x (drop next bytes))) e
+      ∙ step-of (got gap (drop next bytes)) (g .answer)
+
+-- The tags of `Gap` and `Step` other than that of a value.
+abbrev pub NoGap : Gap → Type 0
+NoGap g = (E.tagOf (E.declared gap-enum) g ≡ 1) ⊎ (E.tagOf (E.declared gap-enum) g ≡ 2)
+
+abbrev pub NoStep : Step → Type 0
+NoStep r = E.tagOf (E.declared step-enum) r ≡ 1
+
+module _ {p s : ℕ} {bytes : List ℕ} {at last : ℕ} where
+  step-cut : GapPost bytes at Cut → StepPost p s bytes at last (StepRefused 18)
+  step-cut g = record { answer = step-of p s bytes at last (refused 18) (g .answer); inside = tt }
+
+  step-long : GapPost bytes at Long → StepPost p s bytes at last (StepRefused 19)
+  step-long g = record { answer = step-of p s bytes at last (refused 19) (g .answer); inside = tt }
+
+  pub step-no-gap : (g : Gap) (n : ℕ) → NoGap g → GapPost bytes at g → n ≡ gapRefusal g → StepPost p s bytes at last (StepRefused n)
+  step-no-gap (Value v next) n (inl k) a e = absurd (let z : ⊥ = omega arith in z)
+  step-no-gap (Value v next) n (inr k) a e = absurd (let z : ⊥ = omega arith in z)
+  step-no-gap Cut n k a e = subst (λ (j : ℕ). StepPost p s bytes at last (StepRefused j)) (sym e) (step-cut a)
+  step-no-gap Long n k a e = subst (λ (j : ℕ). StepPost p s bytes at last (StepRefused j)) (sym e) (step-long a)
+
+  pub step-refused : {gap next : ℕ} (v : ℕ) → GapPost bytes at (Value gap next) → v ≡ (last + gap) % 2 ^ 32 → true ≡ refusedHere p s last v
+      → StepPost p s bytes at last (StepRefused 20)
+  step-refused {gap} {next} v g e f = record { answer = step-is p s bytes at last gap next v g e true f; inside = tt }
+
+  pub step-next : {gap next v : ℕ} → GapPost bytes at (Value gap next) → v ≡ (last + gap) % 2 ^ 32 → false ≡ refusedHere p s last v
+      → StepPost p s bytes at last (Next v next)
+  step-next {gap} {next} {v} g e f = record { answer = step-is p s bytes at last gap next v g e false f; inside = g .inside }
+
+-- What is known of a value that was read: its gap, and that it was not refused.
+pub record Stepped (p s : ℕ) (l : List ℕ) (last v : ℕ) (rest : List ℕ) : Type 0 where
+  pub gap : ℕ
+  pub bytes : gapOf l ≡ got gap rest
+  pub sum : v ≡ (last + gap) % 2 ^ 32
+  pub here : refusedHere p s last v ≡ false
+
+pub stepped : (p s : ℕ) (l : List ℕ) (last : ℕ) {v : ℕ} {rest : List ℕ} → stepOf p s l last ≡ got v rest → Stepped p s l last v rest
+unfolding stepOf
+stepped p s l last {v} {rest} e = go (gapOf l) refl e
+  where
+    go : (r : Read ℕ) → gapOf l ≡ r → andThen r (stepFrom p s last) ≡ got v rest → Stepped p s l last v rest
+    go (refused k) f g = absurd (let z : _≡_ {A = ℕ} 0 1 = cc in omega arith)
+    go (got gap rest′) f g = pick (refusedHere p s last ((last + gap) % 2 ^ 32)) refl g
+      where
+        pick : (t : Bool) → refusedHere p s last ((last + gap) % 2 ^ 32) ≡ t → cond t (refused 20) (got ((last + gap) % 2 ^ 32) rest′) ≡ got v rest
+            → Stepped p s l last v rest
+        pick true h k = absurd (let z : _≡_ {A = ℕ} 0 1 = cc in omega arith)
+        pick false h k =
+            let a : (last + gap) % 2 ^ 32 ≡ v = cc in
+            let b : rest′ ≡ rest = cc in
+            record {
+              gap = gap;
+              bytes = f ∙ ap (λ (x : List ℕ). got gap x) b;
+              sum = sym a;
+              here = subst (λ (x : ℕ). refusedHere p s last x ≡ false) a h;
+            }
+
+-- ---- one value after another
+
+-- What follows the first value.
+abbrev pub sumsFrom : ℕ → ℕ → ℕ → ℕ → List ℕ → Read (List ℕ)
+sumsFrom p s n v rest = before v (sumsOf p s n rest v)
+
+module _ (p s n last : ℕ) where
+  step-sums : (r : Read ℕ)
+      → andThen r (λ gap rest. let v = (last + gap) % 2 ^ 32 in let more = before v (sumsOf p s n rest v) in cond (refusedHere p s last v) (refused 20) more)
+      ≡ andThen (andThen r (stepFrom p s last)) (sumsFrom p s n)
+  step-sums (refused k) = refl
+  step-sums (got gap rest) = pick ((last + gap) % 2 ^ 32) (refusedHere p s last ((last + gap) % 2 ^ 32))
+    where
+      pick : (v : ℕ) (t : Bool) → cond t (refused 20) (sumsFrom p s n v rest) ≡ andThen (cond t (refused 20) (got v rest)) (sumsFrom p s n)
+      pick v true = refl
+      pick v false = refl
+
+  -- The values of bytes that are not at their end: the first one, and those of the rest.
+  pub sums-step : (l : List ℕ) → 0 < length l → sumsOf p s (suc n) l last ≡ andThen (stepOf p s l last) (sumsFrom p s n)
+  unfolding sumsOf stepOf
+  sums-step [] h = absurd (let z : ⊥ = omega arith in z)
+  sums-step (b ∷ l) h = step-sums (gapOf (b ∷ l))
+
+pub sums-none : (p s n last : ℕ) → sumsOf p s n [] last ≡ got [] []
+unfolding sumsOf
+sums-none p s zero last = refl
+sums-none p s (suc n) last = refl
+
+-- ---- the loop over the values
+
+-- Values in front.
+abbrev joined : List ℕ → Read (List ℕ) → Read (List ℕ)
+joined l (got vs rest) = got (l ++ vs) rest
+joined l (refused n) = refused n
+
+joined-none : (r : Read (List ℕ)) → r ≡ joined [] r
+joined-none (got vs rest) = refl
+joined-none (refused n) = refl
+
+joined-before : (l : List ℕ) (v : ℕ) (r : Read (List ℕ)) → joined l (before v r) ≡ joined (l ++ (v ∷ [])) r
+joined-before l v (got vs rest) = ap (λ (x : List ℕ). got x rest) (sym (append-assoc l (v ∷ []) vs))
+joined-before l v (refused n) = refl
+
+-- What is left to ask of all values.
+abbrev asked : ℕ → ℕ → List ℕ → List ℕ → Read (List ℕ)
+asked p s vs rest = cond (allValid p s vs) (got vs rest) (refused 20)
+
+-- Where the loop is: at most `bound` values are left, and the list's values are those written and those of the rest.
+pub record Going (p s : ℕ) (bytes out : List ℕ) (at k last plain : ℕ) : Type 0 where
+  pub bound : ℕ
+  pub enough : length bytes ≤ at + bound
+  pub inside : at ≤ length bytes
+  pub fewer : k ≤ at
+  pub whole : sumsOf p s (length bytes) bytes 0 ≡ joined (take k out) (sumsOf p s bound (drop at bytes) last)
+  pub checked : Checked p s (take k out) last plain
+
+pub going-start : (p s : ℕ) (bytes out : List ℕ) → Going p s bytes out 0 0 0 0
+going-start p s bytes out =
+    record {
+      bound = length bytes;
+      enough = omega arith;
+      inside = omega arith;
+      fewer = omega arith;
+      whole = joined-none (sumsOf p s (length bytes) bytes 0);
+      checked = checked-none p s;
+    }
+
+module _ {p s : ℕ} {bytes out : List ℕ} {at k last plain : ℕ} (g : Going p s bytes out at k last plain) where
+  module _ (h : at < length bytes) where
+    -- With the next value in front of the rest.
+    one-more : (n : ℕ) × (length bytes ≤ at + 1 + n)
+        × (sumsOf p s (length bytes) bytes 0 ≡ joined (take k out) (andThen (stepOf p s (drop at bytes) last) (sumsFrom p s n)))
+    one-more = go (g .bound) (g .enough) (g .whole)
+      where
+        go : (n : ℕ) → length bytes ≤ at + n → sumsOf p s (length bytes) bytes 0 ≡ joined (take k out) (sumsOf p s n (drop at bytes) last)
+            → (n : ℕ) × (length bytes ≤ at + 1 + n)
+            × (sumsOf p s (length bytes) bytes 0 ≡ joined (take k out) (andThen (stepOf p s (drop at bytes) last) (sumsFrom p s n)))
+        go zero e w = absurd (let z : ⊥ = omega arith in z)
+        go (suc n) e w = (n, omega arith, w ∙ ap (joined (take k out)) (sums-step p s n last (drop at bytes) (omega (arith, length-drop at bytes))))
+
+    stepped-to : (r : Read ℕ) → r ≡ stepOf p s (drop at bytes) last
+        → sumsOf p s (length bytes) bytes 0 ≡ joined (take k out) (andThen r (sumsFrom p s (one-more .0)))
+    stepped-to r e = one-more .2 ∙ ap (λ (x : Read ℕ). joined (take k out) (andThen x (sumsFrom p s (one-more .0)))) (sym e)
+
+    going-refused : {n : ℕ} → StepPost p s bytes at last (StepRefused n) → Decodes (decodeOf p s bytes) (Refused n) out
+    unfolding decodeOf
+    going-refused {n} a =
+        subst (λ (x : Read (List ℕ)). Decodes (andThen x (asked p s)) (Refused n) out) (sym (stepped-to (refused n) (a .answer))) refl
+
+    pub going-stopped : (r : Step) (n : ℕ) → NoStep r → StepPost p s bytes at last r → n ≡ stepRefusal r → Decodes (decodeOf p s bytes) (Refused n) out
+    going-stopped (Next v next) n j a e = absurd (let z : ⊥ = omega arith in z)
+    going-stopped (StepRefused m) n j a e = subst (λ (i : ℕ). Decodes (decodeOf p s bytes) (Refused i) out) (sym e) (going-refused a)
+
+    pub going-next : {v next q : ℕ} → k < length out → StepPost p s bytes at last (Next v next) → q ≡ cond (marked p s v) plain v
+        → Going p s bytes (set out k v) next (k + 1) v q
+    going-next {v} {next} {q} room a e =
+        let t : take (k + 1) (set out k v) ≡ take k out ++ (v ∷ []) = ap (λ (n : ℕ). take n (set out k v)) (add-one k) ∙ take-suc-set out k v room in
+        record {
+          bound = one-more .0;
+          enough = omega (arith, one-more .1, a .inside .0);
+          inside = a .inside .1;
+          fewer = omega (arith, g .fewer, a .inside .0);
+          whole =
+              stepped-to (got v (drop next bytes)) (a .answer)
+              ∙ joined-before (take k out) v (sumsOf p s (one-more .0) (drop next bytes) v)
+              ∙ ap (λ (x : List ℕ). joined x (sumsOf p s (one-more .0) (drop next bytes) v)) (sym t);
+          checked =
+              subst (λ (x : List ℕ). Checked p s x v q) (sym t)
+              (checked-more (g .checked) v (stepped p s (drop at bytes) last (sym (a .answer)) .here) e);
+        }
+
+  -- At the end of the bytes the two tests decide.
+  module _ (h : length bytes ≤ at) where
+    all-read : sumsOf p s (length bytes) bytes 0 ≡ got (take k out) []
+    all-read =
+        g .whole
+        ∙ ap (joined (take k out)) (ap (λ (l : List ℕ). sumsOf p s (g .bound) l last) (drop-of-length-le bytes h) ∙ sums-none p s (g .bound) last)
+        ∙ ap (λ (l : List ℕ). got l []) (append-nil (take k out))
+
+    decode-is : (t : Bool) → allValid p s (take k out) ≡ t → decodeOf p s bytes ≡ cond t (got (take k out) []) (refused 20)
+    unfolding decodeOf
+    decode-is t e =
+        ap (λ (x : Read (List ℕ)). andThen x (asked p s)) all-read ∙ ap (λ (x : Bool). cond x (got (take k out) []) (refused 20)) e
+
+    some-invalid : (allValid p s (take k out) ≡ true → ⊥) → Decodes (decodeOf p s bytes) (Refused 20) out
+    some-invalid f =
+        ⊎-elim (λ (e : allValid p s (take k out) ≡ true). absurd (f e))
+        (λ (e : allValid p s (take k out) ≡ false). subst (λ (x : Read (List ℕ)). Decodes x (Refused 20) out) (sym (decode-is false e)) refl)
+        (decided (allValid p s (take k out)))
+
+    pub going-plain : valid p s plain ≡ false → Decodes (decodeOf p s bytes) (Refused 20) out
+    going-plain e = some-invalid (λ (f : allValid p s (take k out) ≡ true). true≢false (sym (g .checked .each f .0) ∙ e))
+
+    pub going-last : valid p s last ≡ false → Decodes (decodeOf p s bytes) (Refused 20) out
+    going-last e = some-invalid (λ (f : allValid p s (take k out) ≡ true). true≢false (sym (g .checked .each f .1) ∙ e))
+
+    pub going-end : k ≤ length out → valid p s plain ≡ true → valid p s last ≡ true → Decodes (decodeOf p s bytes) (Done k) out
+    going-end room e f =
+        subst (λ (x : Read (List ℕ)). Decodes x (Done k) out) (sym (decode-is true (g .checked .all e f)))
+        (ap Done (sym (length-take-le k out room)), ap (λ (n : ℕ). take n out) (length-take-le k out room))
+
+-- ---- what an accepted list is
+
+-- A value in its fewest bytes is no longer than the bytes that it was read from.
+short-varint : (n : ℕ) (l : List ℕ) (v : ℕ) (rest : List ℕ) → varintOf n l ≡ got v rest → length (varintBytes n v) + length rest ≤ length l
+short-varint zero l v rest e = absurd (let z : _≡_ {A = ℕ} 0 1 = cc (varint-none l) in omega arith)
+short-varint (suc n) [] v rest e = absurd (let z : _≡_ {A = ℕ} 0 1 = cc (varint-end [] 0 n (omega arith)) in omega arith)
+short-varint (suc n) (b ∷ l) v rest e =
+    ⊎-elim
+    (λ (h : b < 128).
+    let f : got b l ≡ got v rest = sym (varint-last (b ∷ l) 0 n (omega arith) h) ∙ e in
+    let x : b ≡ v = cc in
+    let y : l ≡ rest = cc in
+    omega (arith, ap length y, len-last n v (subst (λ (k : ℕ). k < 128) x h)))
+    (λ (h : 128 ≤ b). go (short-varint n l) (varintOf n l) refl (sym (varint-more (b ∷ l) 0 n (omega arith) h) ∙ e)) (side b 128)
+  where
+    go : ((w : ℕ) (rest : List ℕ) → varintOf n l ≡ got w rest → length (varintBytes n w) + length rest ≤ length l)
+        → (r : Read ℕ) → varintOf n l ≡ r → payload (b % 128) r ≡ got v rest → length (varintBytes (suc n) v) + length rest ≤ suc (length l)
+    go ih (refused k) f g = absurd (let z : _≡_ {A = ℕ} 0 1 = cc in omega arith)
+    go ih (got w rest′) f g =
+        let x : b % 128 + 128 * w ≡ v = cc in
+        let y : rest′ ≡ rest = cc in
+        let i : length (varintBytes n w) + length rest ≤ length l = ih w rest (f ∙ ap (λ (z : List ℕ). got w z) y) in
+        ⊎-elim (λ (h : v < 128). let a : length (varintBytes (suc n) v) + length rest ≤ suc (length l) = omega (arith, len-last n v h) in a)
+        (λ (h : 128 ≤ v).
+        let q : v / 128 ≡ w = omega arith in
+        let a : length (varintBytes (suc n) v) + length rest ≤ suc (length l) = omega (arith, len-more n v h, ap (λ (k : ℕ). length (varintBytes n k)) q) in a)
+        (side v 128)
+
+-- What is known of a gap that was read.
+record Gapped (l : List ℕ) (gap : ℕ) (rest : List ℕ) : Type 0 where
+  small : gap < 2 ^ 32
+  short : length (varintBytes 5 gap) + length rest ≤ length l
+
+gapped : (l : List ℕ) {gap : ℕ} {rest : List ℕ} → gapOf l ≡ got gap rest → Gapped l gap rest
+unfolding gapOf
+gapped l {gap} {rest} e = go (varintOf 5 l) refl e
+  where
+    go : (r : Read ℕ) → varintOf 5 l ≡ r → gapAnswer r ≡ got gap rest → Gapped l gap rest
+    go (refused n) f g = absurd (let z : _≡_ {A = ℕ} 0 1 = cc in omega arith)
+    go (got v rest′) f g = pick (ltb v (2 ^ 32)) refl g
+      where
+        pick : (t : Bool) → ltb v (2 ^ 32) ≡ t → cond t (got v rest′) (refused 19) ≡ got gap rest → Gapped l gap rest
+        pick false h k = absurd (let z : _≡_ {A = ℕ} 0 1 = cc in omega arith)
+        pick true h k =
+            let a : v ≡ gap = cc in
+            let b : rest′ ≡ rest = cc in
+            record {
+              small = subst (λ (x : ℕ). x < 2 ^ 32) a (ltb-true v (2 ^ 32) h);
+              short = short-varint 5 l gap rest (f ∙ ap₂ (λ (x : ℕ) (y : List ℕ). got x y) a b);
+            }
+
+-- A sum that wraps is smaller than the last one, so that a sum that is not smaller has not wrapped.
+no-wrap : (last gap v : ℕ) → last < 2 ^ 32 → gap < 2 ^ 32 → v ≡ (last + gap) % 2 ^ 32 → last ≤ v → v - last ≡ gap
+no-wrap last gap v h k e l = omega arith
+
+-- What the values of bytes after the value `last` are.
+record Summed (l : List ℕ) (last : ℕ) (vs rest : List ℕ) : Type 0 where
+  end : rest ≡ []
+  rises : notBefore last vs ≡ true
+  fewer : length vs ≤ length l
+  short : writtenFrom last vs ≤ length l
+
+module _ {p s : ℕ} {l : List ℕ} {last v : ℕ} {rest : List ℕ} (h : last < 2 ^ 32) (t : Stepped p s l last v rest) where
+  step-lt : v < 2 ^ 32
+  step-lt = omega (arith, t .sum)
+
+  step-fewer : length rest < length l
+  step-fewer = omega (arith, gapped l (t .bytes) .short, len-pos 4 (t .gap))
+
+  summed-more : {ws end : List ℕ} → Summed rest v ws end → Summed l last (v ∷ ws) end
+  unfolding writtenFrom
+  summed-more r =
+      let g = gapped l (t .bytes) in
+      let le = not-less p s last v (t .here) in
+      record {
+        end = r .end;
+        rises = both (le-leb last v le) (r .rises);
+        fewer = omega (arith, r .fewer, step-fewer);
+        short =
+            omega (arith, r .short, g .short, ap (λ (k : ℕ). length (varintBytes 5 k)) (no-wrap last (t .gap) v h (g .small) (t .sum) le));
+      }
+
+before-got : (v : ℕ) (r : Read (List ℕ)) {vs rest : List ℕ} → before v r ≡ got vs rest → (ws : List ℕ) × (vs ≡ v ∷ ws) × (r ≡ got ws rest)
+before-got v (refused n) e = absurd (let z : _≡_ {A = ℕ} 0 1 = cc in omega arith)
+before-got v (got ws rest′) {vs} {rest} e =
+    let a : v ∷ ws ≡ vs = cc in
+    let b : rest′ ≡ rest = cc in
+    (ws, sym a, ap (λ (x : List ℕ). got ws x) b)
+
+module _ (p s : ℕ) where
+  summed-none : (n : ℕ) (l : List ℕ) (last : ℕ) {vs rest : List ℕ} → length l ≡ 0 → sumsOf p s n l last ≡ got vs rest → Summed l last vs rest
+  unfolding writtenFrom
+  summed-none n [] last {vs} {rest} h e =
+      let f : got [] [] ≡ got vs rest = sym (sums-none p s n last) ∙ e in
+      let a : [] ≡ vs = cc in
+      let b : [] ≡ rest = cc in
+      subst (λ (x : List ℕ). Summed [] last x rest) a (record { end = sym b; rises = refl; fewer = omega arith; short = omega arith })
+  summed-none n (b ∷ l) last h e = absurd (let z : ⊥ = omega arith in z)
+
+  summed : (n : ℕ) (l : List ℕ) (last : ℕ) (vs rest : List ℕ) → length l ≤ n → last < 2 ^ 32 → sumsOf p s n l last ≡ got vs rest → Summed l last vs rest
+  summed zero l last vs rest h k e = summed-none zero l last (omega arith) e
+  summed (suc n) l last vs rest h k e =
+      ⊎-elim (λ (z : length l < 1). summed-none (suc n) l last (omega arith) e)
+      (λ (z : 1 ≤ length l). go (summed n) (stepOf p s l last) refl (sym (sums-step p s n last l z) ∙ e)) (side (length l) 1)
+    where
+      go : ((l : List ℕ) (last : ℕ) (vs rest : List ℕ) → length l ≤ n → last < 2 ^ 32 → sumsOf p s n l last ≡ got vs rest → Summed l last vs rest)
+          → (r : Read ℕ) → stepOf p s l last ≡ r → andThen r (sumsFrom p s n) ≡ got vs rest → Summed l last vs rest
+      go ih (refused j) f g = absurd (let z : _≡_ {A = ℕ} 0 1 = cc in omega arith)
+      go ih (got v more) f g =
+          let b = before-got v (sumsOf p s n more v) g in
+          let t = stepped p s l last f in
+          subst (λ (x : List ℕ). Summed l last x rest) (sym (b .1))
+          (summed-more k t (ih more v (b .0) rest (omega (arith, step-fewer k t)) (step-lt k t) (b .2)))
+
+-- What a list that is accepted is: read to its end, never descending, every value valid, and no longer when it is written than it was.
+pub record Accepted (p s : ℕ) (l vs rest : List ℕ) : Type 0 where
+  pub end : rest ≡ []
+  pub rises : ascends vs ≡ true
+  pub all : allValid p s vs ≡ true
+  pub fewer : length vs ≤ length l
+  pub short : written vs ≤ length l
+
+pub accepted : (p s : ℕ) (l : List ℕ) {vs rest : List ℕ} → decodeOf p s l ≡ got vs rest → Accepted p s l vs rest
+unfolding decodeOf ascends written
+accepted p s l {vs} {rest} e = go (sumsOf p s (length l) l 0) refl e
+  where
+    go : (r : Read (List ℕ)) → sumsOf p s (length l) l 0 ≡ r → andThen r (asked p s) ≡ got vs rest → Accepted p s l vs rest
+    go (refused n) f g = absurd (let z : _≡_ {A = ℕ} 0 1 = cc in omega arith)
+    go (got ws end) f g = pick (allValid p s ws) refl g
+      where
+        pick : (t : Bool) → allValid p s ws ≡ t → cond t (got ws end) (refused 20) ≡ got vs rest → Accepted p s l vs rest
+        pick false h k = absurd (let z : _≡_ {A = ℕ} 0 1 = cc in omega arith)
+        pick true h k =
+            let a : ws ≡ vs = cc in
+            let b : end ≡ rest = cc in
+            let m = summed p s (length l) l 0 vs rest (omega arith) (omega arith) (f ∙ ap₂ (λ (x y : List ℕ). got x y) a b) in
+            record { end = m .end; rises = m .rises; all = subst (λ (x : List ℕ). allValid p s x ≡ true) a h; fewer = m .fewer; short = m .short }
+
+-- No bytes are a list of no values, whatever the precisions are.
+pub decode-none : (p s : ℕ) → decodeOf p s [] ≡ got [] []
+unfolding decodeOf sumsOf allValid
+decode-none p s = refl
+
+-- ---- what is written is read back
+
+gap-back : (gap : ℕ) (l : List ℕ) → gap < 2 ^ 32 → gapOf (varintBytes 5 gap ++ l) ≡ got gap l
+gap-back gap l h =
+    sym (gap-is (varintBytes 5 gap ++ l) (got gap l) (there-and-back 4 gap l (let k : gap < 2 ^ 35 = omega arith in k))) ∙ gap-small gap l h
+
+module _ {p s : ℕ} (pair : Pair p s) where
+  step-back : (last v : ℕ) (l : List ℕ) → last ≤ v → valid p s v ≡ true → stepOf p s (varintBytes 5 (v - last) ++ l) last ≡ got v l
+  unfolding stepOf
+  step-back last v l h t =
+      let lt = valid-lt p s v pair t in
+      let f : (last + (v - last)) % 2 ^ 32 ≡ v = omega arith in
+      ap (λ (x : Read ℕ). andThen x (stepFrom p s last)) (gap-back (v - last) l (omega arith))
+      ∙ ap (λ (x : ℕ). cond (refusedHere p s last x) (refused 20) (got x l)) f
+      ∙ ap (λ (x : Bool). cond x (refused 20) (got v l)) (valid-taken p s last v h t)
+
+  sums-back : (vs : List ℕ) (n last : ℕ) → notBefore last vs ≡ true → allValid p s vs ≡ true → length (encodeFrom last vs) ≤ n
+      → sumsOf p s n (encodeFrom last vs) last ≡ got vs []
+  unfolding encodeFrom allValid
+  sums-back [] n last a e h = sums-none p s n last
+  sums-back (v ∷ vs) zero last a e h =
+      absurd (let z : ⊥ = omega (arith, length-append (varintBytes 5 (v - last)) (encodeFrom v vs), len-pos 4 (v - last)) in z)
+  sums-back (v ∷ vs) (suc n) last a e h =
+      let len = length-append (varintBytes 5 (v - last)) (encodeFrom v vs) in
+      let pos = len-pos 4 (v - last) in
+      sums-step p s n last (varintBytes 5 (v - last) ++ encodeFrom v vs) (omega arith)
+      ∙ ap (λ (r : Read ℕ). andThen r (sumsFrom p s n))
+      (step-back last v (encodeFrom v vs) (leb-true last v (and-left (leb last v) (notBefore v vs) a)) (and-left (valid p s v) (allValid p s vs) e))
+      ∙ ap (before v)
+      (sums-back vs n v (and-right (leb last v) (notBefore v vs) a) (and-right (valid p s v) (allValid p s vs) e) (omega arith))
+
+  pub decode-encode : (vs : List ℕ) → ascends vs ≡ true → allValid p s vs ≡ true → decodeOf p s (encodeList vs) ≡ got vs []
+  unfolding ascends encodeList decodeOf
+  decode-encode vs a e =
+      ap (λ (r : Read (List ℕ)). andThen r (asked p s)) (sums-back vs (length (encodeFrom 0 vs)) 0 a e (omega arith))
+      ∙ ap (λ (t : Bool). cond t (got vs []) (refused 20)) e

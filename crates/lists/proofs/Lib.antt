@@ -1,0 +1,11 @@
+pub mod ValueLaws
+pub mod DecodingLaws
+pub mod CheckingLaws
+pub mod OrderLaws
+pub mod MergeLaws
+pub mod MergingLaws
+pub mod SortingLaws
+pub mod InsertLaws
+pub mod RankLaws
+pub mod RegisterLaws
+pub mod IndexLaws

@@ -1,0 +1,107 @@
+-- The values stored so far and those of the rest make up the list (`Going`), and the two values that the loop keeps decide for all of them.
+use Prim.Native.Nat.{_≤_, _-_}
+use mathlib.Core.Path.{_≡_, refl, sym, _∙_}
+use native.Mathlib.Omega.{arith}
+use lib.ListN.{length, length-set}
+use borrow.Author.Tests.{not-true, not-false}
+use borrow.Author.Needs.{needs}
+use Rattle.lists.proofs.DecodingLaws.{Going, going-start, going-next, going-stopped, going-plain, going-last, going-end}
+use Rattle.lists.proofs.decoding.decode_validated_into.Statement.{statement}
+use Rattle.lists.proofs.decoding.decode_validated_into.Tie as tie
+
+abbrev Inv-loop : tie.InvT-loop
+Inv-loop bytes enc out₀ at₀ k₀ last₀ plain₀ out at k last plain = Going (enc .«normal_precision») (enc .«sparse_precision») bytes out at k last plain × (length out ≡ length out₀) × (length bytes ≤ length out₀)
+
+abbrev μ-loop : tie.MeasureT-loop
+μ-loop bytes enc out₀ at₀ k₀ last₀ plain₀ out at k last plain = length bytes - at
+
+loop-holds : tie.Need-loop-holds Inv-loop μ-loop
+loop-holds c = (going-start _ _ _ _, refl, c .before .before .pre .1)
+
+next-value-requires : tie.Need-next-value-requires Inv-loop μ-loop
+next-value-requires c κs = search needs
+
+enum-known-r : tie.Need-enum-known-r Inv-loop μ-loop
+enum-known-r c = search needs
+
+enum-told : tie.Need-enum-told Inv-loop μ-loop
+enum-told c = search needs
+
+step-refusal-requires : tie.Need-step-refusal-requires Inv-loop μ-loop
+step-refusal-requires c κs = search needs
+
+same-length : tie.Need-same-length Inv-loop μ-loop
+same-length c = search needs
+
+returns : tie.Need-returns Inv-loop μ-loop
+returns c = going-stopped (c .before .before .before .before .before .loop .inv .0) (c .before .before .before .before .loop-test .taken) (c .before .before .before .next-value .result) (c .step-refusal .result) (c .before .before .match .keys2) (c .before .before .before .next-value .ensures) (c .step-refusal .ensures)
+
+mul-out : tie.Need-mul-out Inv-loop μ-loop
+mul-out c = search needs
+
+slice-write-out : tie.Need-slice-write-out Inv-loop μ-loop
+slice-write-out c = search needs
+
+later-plain-requires : tie.Need-later-plain-requires Inv-loop μ-loop
+later-plain-requires c κs = search needs
+
+add-k : tie.Need-add-k Inv-loop μ-loop
+add-k c = search needs
+
+loop-less : tie.Need-loop-less Inv-loop μ-loop
+loop-less c = let a = rw (c .before .before .r .given .1) at (c .before .before .before .before .next-value .ensures) in omega (arith, a .inside .0, a .inside .1)
+
+loop-again : tie.Need-loop-again Inv-loop μ-loop
+loop-again c = let i = c .before .before .before .before .before .before .loop .inv in (going-next (i .0) (c .before .before .before .before .before .loop-test .taken) (search needs) (rw (c .before .before .r .given .1) at (c .before .before .before .before .next-value .ensures)) (c .later-plain .ensures), simp length-set (i .1), i .2)
+
+is-valid-requires : tie.Need-is-valid-requires Inv-loop μ-loop
+is-valid-requires c κs = search needs
+
+same-length-2 : tie.Need-same-length-2 Inv-loop μ-loop
+same-length-2 c = search needs
+
+returns-2 : tie.Need-returns-2 Inv-loop μ-loop
+returns-2 c = going-plain (c .before .before .before .loop .inv .0) (c .before .before .loop-test .left) (sym (c .before .is-valid .ensures) ∙ not-true _ (c .if1 .taken))
+
+is-valid-requires-2 : tie.Need-is-valid-requires-2 Inv-loop μ-loop
+is-valid-requires-2 c κs = search needs
+
+same-length-3 : tie.Need-same-length-3 Inv-loop μ-loop
+same-length-3 c = search needs
+
+returns-3 : tie.Need-returns-3 Inv-loop μ-loop
+returns-3 c = going-last (c .before .before .before .before .before .loop .inv .0) (c .before .before .before .before .loop-test .left) (sym (c .before .is-valid2 .ensures) ∙ not-true _ (c .if2 .taken))
+
+same-length-4 : tie.Need-same-length-4 Inv-loop μ-loop
+same-length-4 c = search needs
+
+returns-4 : tie.Need-returns-4 Inv-loop μ-loop
+returns-4 c = going-end (c .before .before .before .before .before .loop .inv .0) (c .before .before .before .before .loop-test .left) (search needs) (sym (c .before .before .before .is-valid .ensures) ∙ not-false _ (c .before .before .if1 .left)) (sym (c .before .is-valid2 .ensures) ∙ not-false _ (c .if2 .left))
+
+pub decode-validated-into-spec : {M : Type 1} → statement M
+decode-validated-into-spec =
+    tie.close
+    (tie.spec
+    Inv-loop
+    μ-loop
+    loop-holds
+    next-value-requires
+    enum-known-r
+    enum-told
+    step-refusal-requires
+    same-length
+    returns
+    mul-out
+    slice-write-out
+    later-plain-requires
+    add-k
+    loop-less
+    loop-again
+    is-valid-requires
+    same-length-2
+    returns-2
+    is-valid-requires-2
+    same-length-3
+    returns-3
+    same-length-4
+    returns-4)

@@ -1,0 +1,7 @@
+pub mod Values
+pub mod Sorting
+pub mod Order
+pub mod Lists
+pub mod Merging
+pub mod Registers
+pub mod Examples

@@ -1,0 +1,90 @@
+-- `merge_line` is safe: the counts that `read_list` answers lie inside their arrays.
+use Rattle.lists_cases.proofs.Laws.{listed}
+use borrow.Author.Needs.{needs}
+use Rattle.lists_cases.proofs.merge_line.Statement.{statement}
+use Rattle.lists_cases.proofs.merge_line.Tie as tie
+
+word-requires : tie.Need-word-requires
+word-requires c κs = search needs
+
+slice-aggregate-read-list : tie.Need-slice-aggregate-read-list
+slice-aggregate-read-list c = search needs
+
+read-list-requires : tie.Need-read-list-requires
+read-list-requires c κs = search needs
+
+enum-known-r : tie.Need-enum-known-r
+enum-known-r c = search needs
+
+enum-told : tie.Need-enum-told
+enum-told c = search needs
+
+bad-case-requires : tie.Need-bad-case-requires
+bad-case-requires c κs = search needs
+
+returns : tie.Need-returns
+returns c = search needs
+
+word-requires-2 : tie.Need-word-requires-2
+word-requires-2 c κs = search needs
+
+slice-aggregate-read-list-2 : tie.Need-slice-aggregate-read-list-2
+slice-aggregate-read-list-2 c = search needs
+
+read-list-requires-2 : tie.Need-read-list-requires-2
+read-list-requires-2 c κs = search needs
+
+enum-known-q : tie.Need-enum-known-q
+enum-known-q c = search needs
+
+enum-told-2 : tie.Need-enum-told-2
+enum-told-2 c = search needs
+
+bad-case-requires-2 : tie.Need-bad-case-requires-2
+bad-case-requires-2 c κs = search needs
+
+returns-2 : tie.Need-returns-2
+returns-2 c = search needs
+
+array-share-prefix-a : tie.Need-array-share-prefix-a
+array-share-prefix-a c = listed (c .before .before .before .before .before .before .before .before .before .before .before .read-list .last .1 .0) (c .before .before .before .before .before .before .before .before .before .before .before .read-list .result) (c .before .before .before .before .before .before .before .before .r .given .0 .0) (c .before .before .before .before .before .before .before .before .r .given .1) (c .before .before .before .before .before .before .before .before .before .before .before .read-list .ensures) .0
+
+slice-aggregate-merge-case : tie.Need-slice-aggregate-merge-case
+slice-aggregate-merge-case c = listed (c .before .before .before .before .before .before .before .before .before .before .before .before .read-list .last .1 .0) (c .before .before .before .before .before .before .before .before .before .before .before .before .read-list .result) (c .before .before .before .before .before .before .before .before .before .r .given .0 .0) (c .before .before .before .before .before .before .before .before .before .r .given .1) (c .before .before .before .before .before .before .before .before .before .before .before .before .read-list .ensures) .1
+
+array-share-prefix-b : tie.Need-array-share-prefix-b
+array-share-prefix-b c = listed (c .before .before .before .before .before .read-list2 .last .1 .0) (c .before .before .before .before .before .read-list2 .result) (c .before .before .q .given .0 .0) (c .before .before .q .given .1) (c .before .before .before .before .before .read-list2 .ensures) .0
+
+slice-aggregate-merge-case-2 : tie.Need-slice-aggregate-merge-case-2
+slice-aggregate-merge-case-2 c = listed (c .before .before .before .before .before .before .read-list2 .last .1 .0) (c .before .before .before .before .before .before .read-list2 .result) (c .before .before .before .q .given .0 .0) (c .before .before .before .q .given .1) (c .before .before .before .before .before .before .read-list2 .ensures) .1
+
+merge-case-requires : tie.Need-merge-case-requires
+merge-case-requires c κs = search needs
+
+returns-3 : tie.Need-returns-3
+returns-3 c = search needs
+
+pub merge-line-spec : {M : Type 1} → statement M
+merge-line-spec =
+    tie.close
+    (tie.spec
+    word-requires
+    slice-aggregate-read-list
+    read-list-requires
+    enum-known-r
+    enum-told
+    bad-case-requires
+    returns
+    word-requires-2
+    slice-aggregate-read-list-2
+    read-list-requires-2
+    enum-known-q
+    enum-told-2
+    bad-case-requires-2
+    returns-2
+    array-share-prefix-a
+    slice-aggregate-merge-case
+    array-share-prefix-b
+    slice-aggregate-merge-case-2
+    merge-case-requires
+    returns-3)

@@ -1,0 +1,153 @@
+// Reading the operands of a case, and printing answers: words between blanks, decimal numbers, lists of them.
+ghost use Prim.Native.Nat.{_≤_};
+ghost use lib.ListN.{length};
+ghost use Rattle.lists_cases.specs.Text.{ListedPost};
+use cases::input::Number;
+use libc::STDOUT_FILENO;
+
+// A number of 32 bits, or a word that is none.
+pub(crate) enum Value {
+    Is(u32),
+    Other,
+}
+
+// How many values a list has, or a word that is no list, or one too long for the memory that is lent.
+pub(crate) enum Listed {
+    Count(usize),
+    Other,
+}
+
+// Where the next word starts: behind the blank at `end`, or at the end of the line.
+fn next_start(line: &[u8], end: usize) -> usize
+    requires { ⌜ end ≤ length (now line) ⌝ }
+    ensures { λ r. ⌜ r ≤ length (now (line .entry)) ⌝ }
+{
+    if end < line.len() { end + 1 } else { end }
+}
+
+// Where the word that has k others before it starts.
+fn word_start(line: &[u8], k: usize) -> usize
+    ensures { λ r. ⌜ r ≤ length (now (line .entry)) ⌝ }
+{
+    let mut start: usize = 0;
+    let mut i: usize = 0;
+    while i < k {
+        let end = cases::input::find(line, start, b' ');
+        start = next_start(line, end);
+        i += 1;
+    }
+    start
+}
+
+// The word that has k others before it: no bytes where the line has no such word.
+pub(crate) fn word(line: &[u8], k: usize) -> &[u8] {
+    let start = word_start(line, k);
+    let end = cases::input::find(line, start, b' ');
+    &line[start..end]
+}
+
+pub(crate) fn read_value(word: &[u8]) -> Value {
+    let r = cases::input::read_number(word);
+    let Number::Value(v) = r else {
+        return Value::Other;
+    };
+    if v < 0x1_0000_0000 {
+        return Value::Is(v as u32);
+    }
+    Value::Other
+}
+
+// A precision: 0, which no list has, where the word is no number.
+pub(crate) fn precision(word: &[u8]) -> u32 {
+    match read_value(word) {
+        Value::Is(v) => v,
+        Value::Other => 0,
+    }
+}
+
+// Decimal numbers with commas between them, put at the front of `out`.
+fn read_values(word: &[u8], out: &mut [u32]) -> Listed
+    ensures { λ r. ⌜ ListedPost (now (out .exit)) r ⌝ }
+{
+    let mut n: usize = 0;
+    let mut at: usize = 0;
+    while at < word.len() {
+        if out.len() <= n {
+            return Listed::Other;
+        }
+        let end = cases::input::find(word, at, b',');
+        let r = read_value(&word[at..end]);
+        let Value::Is(v) = r else {
+            return Listed::Other;
+        };
+        out[n] = v;
+        n += 1;
+        at = end + 1;
+    }
+    Listed::Count(n)
+}
+
+// A list: `.` is the empty one.
+pub(crate) fn read_list(word: &[u8], out: &mut [u32]) -> Listed
+    ensures { λ r. ⌜ ListedPost (now (out .exit)) r ⌝ }
+{
+    if word.len() == 0 {
+        return Listed::Other;
+    }
+    if word[0] == b'.' {
+        return Listed::Count(0);
+    }
+    read_values(word, out)
+}
+
+pub(crate) fn end_line() {
+    io::write_all(STDOUT_FILENO, b"\n");
+}
+
+pub(crate) fn space() {
+    io::write_all(STDOUT_FILENO, b" ");
+}
+
+pub(crate) fn bad_case() {
+    io::write_all(STDOUT_FILENO, b"bad case\n");
+}
+
+pub(crate) fn print_number(v: u64) {
+    io::print_decimal(STDOUT_FILENO, v);
+}
+
+pub(crate) fn print_value(v: u32) {
+    print_number(v as u64);
+}
+
+pub(crate) fn print_bool(b: bool) {
+    if b {
+        io::write_all(STDOUT_FILENO, b"1");
+    } else {
+        io::write_all(STDOUT_FILENO, b"0");
+    }
+}
+
+pub(crate) fn print_refused(n: u8) {
+    io::write_all(STDOUT_FILENO, b"refused ");
+    print_number(n as u64);
+}
+
+pub(crate) fn print_hex(bytes: &[u8]) {
+    cases::output::print_hex(STDOUT_FILENO, bytes);
+}
+
+// A list as `read_list` reads it.
+pub(crate) fn print_list(l: &[u32]) {
+    if l.len() == 0 {
+        io::write_all(STDOUT_FILENO, b".");
+        return;
+    }
+    print_value(l[0]);
+    let mut i: usize = 1;
+    while i < l.len() {
+        io::write_all(STDOUT_FILENO, b",");
+        print_value(l[i]);
+        i += 1;
+    }
+}
