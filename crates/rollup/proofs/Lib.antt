@@ -1,0 +1,6 @@
+pub mod DenseLaws
+pub mod AddLaws
+pub mod FitLaws
+pub mod JudgeLaws
+pub mod SparseLaws
+pub mod KeepsLaws

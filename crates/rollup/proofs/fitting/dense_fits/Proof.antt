@@ -1,0 +1,47 @@
+-- Each test is one part of the definition, and the registers answer for all where the others were passed.
+use mathlib.Core.Path.{_∙_}
+use Rattle.rollup.proofs.FitLaws.{said-yes, said-no, range-of, asked-normal, asked-sparse, asked-none, asked-registers}
+use borrow.Author.Needs.{needs}
+use Rattle.rollup.proofs.fitting.dense_fits.Statement.{statement}
+use Rattle.rollup.proofs.fitting.dense_fits.Tie as tie
+
+normal-range-requires : tie.Need-normal-range-requires
+normal-range-requires c κs = search needs
+
+returns : tie.Need-returns
+returns c = asked-normal (c .before .before .before .args .a) (c .before .before .before .args .registers .now) (said-no (c .before .normal-range .ensures) (c .if1 .taken))
+
+returns-2 : tie.Need-returns-2
+returns-2 c =
+    let o = c .before .before .before .before .before in
+    asked-sparse (o .args .a) (o .args .registers .now) (said-yes (c .before .before .before .normal-range .ensures) (c .before .before .if1 .left)) (c .if2 .taken)
+
+no-lists-requires : tie.Need-no-lists-requires
+no-lists-requires c κs = search needs
+
+returns-3 : tie.Need-returns-3
+returns-3 c =
+    let o = c .before .before .before .before .before .before .before in
+    asked-none (o .args .a) (o .args .registers .now) (said-yes (c .before .before .before .before .before .normal-range .ensures) (c .before .before .before .before .if1 .left)) (c .before .before .if2 .left) (said-no (c .before .no-lists .ensures) (c .if3 .taken))
+
+registers-fit-requires : tie.Need-registers-fit-requires
+registers-fit-requires c κs = let o = c .before .before .before .before .before .before .before in range-of (o .args .a .precision) (said-yes (c .before .before .before .before .before .normal-range .ensures) (c .before .before .before .before .if1 .left))
+
+returns-4 : tie.Need-returns-4
+returns-4 c =
+    let o = c .before .before .before .before .before .before .before .before in
+    c .registers-fit .ensures
+    ∙ asked-registers (o .args .a) (o .args .registers .now) (said-yes (c .before .before .before .before .before .before .normal-range .ensures) (c .before .before .before .before .before .if1 .left)) (c .before .before .before .if2 .left)
+    (said-yes (c .before .before .no-lists .ensures) (c .before .if3 .left))
+
+pub dense-fits-spec : {M : Type 1} → statement M
+dense-fits-spec =
+    tie.close
+    (tie.spec
+    normal-range-requires
+    returns
+    returns-2
+    no-lists-requires
+    returns-3
+    registers-fit-requires
+    returns-4)

@@ -1,0 +1,27 @@
+-- One range after the other.
+use mathlib.Core.Path.{sym, _∙_}
+use Rattle.rollup.specs.Accumulator.{sparseRange}
+use Rattle.rollup.proofs.FitLaws.{yes, nay, said-yes, said-no}
+use borrow.Author.Needs.{needs}
+use Rattle.rollup.proofs.fitting.ranges_fit.Statement.{statement}
+use Rattle.rollup.proofs.fitting.ranges_fit.Tie as tie
+
+normal-range-requires : tie.Need-normal-range-requires
+normal-range-requires c κs = search needs
+
+returns : tie.Need-returns
+returns c =
+    let o = c .before .before in
+    sym (nay (sparseRange (o .args .p) (o .args .s)) (said-no (c .before .normal-range .ensures) (c .if1 .taken)))
+
+sparse-range-requires : tie.Need-sparse-range-requires
+sparse-range-requires c κs = search needs
+
+returns-2 : tie.Need-returns-2
+returns-2 c =
+    let o = c .before .before .before in
+    c .sparse-range .ensures ∙ sym (yes (sparseRange (o .args .p) (o .args .s)) (said-yes (c .before .before .normal-range .ensures) (c .before .if1 .left)))
+
+pub ranges-fit-spec : {M : Type 1} → statement M
+ranges-fit-spec =
+    tie.close (tie.spec normal-range-requires returns sparse-range-requires returns-2)

@@ -1,0 +1,30 @@
+-- The copy ends after the values that come in, which is the new count (`copied`).
+use Prim.Native.Nat.{ℕ, _+_}
+use mathlib.Core.Path.{_≡_, ap, _∙_}
+use native.Mathlib.Omega.{arith}
+use Rattle.rollup.specs.SparsePaths.{listed}
+use Rattle.rollup.proofs.SparseLaws.{copied}
+use borrow.Author.Needs.{needs}
+use Rattle.rollup.proofs.sparse_paths.wait.Statement.{statement}
+use Rattle.rollup.proofs.sparse_paths.wait.Tie as tie
+
+copy-run-requires : tie.Need-copy-run-requires
+copy-run-requires c κs = search needs
+
+listed-requires : tie.Need-listed-requires
+listed-requires c κs = search needs
+
+same-length : tie.Need-same-length
+same-length c = search needs
+
+returns : tie.Need-returns
+returns c =
+    let o = c .before .before .before .before .before .before .before in
+    let h = o .args .h in
+    let e : c .before .before .before .copy-run .result ≡ h .«pending_len» + o .args .k = omega (arith, c .before .before .before .copy-run .ensures .0) in (
+      c .listed .ensures ∙ ap (λ (n : ℕ). listed h (h .«sparse_size») (h .«sparse_len») (h .«sparse_bytes») n) e,
+      copied (h .«pending_len») (o .args .k) (c .before .before .before .copy-run .result) _ _ (c .before .before .before .copy-run .ensures .0) (c .before .before .before .copy-run .ensures .1),
+    )
+
+pub wait-spec : {M : Type 1} → statement M
+wait-spec = tie.close (tie.spec copy-run-requires listed-requires same-length returns)

@@ -1,0 +1,9 @@
+pub mod Accumulator
+pub mod Fitting
+pub mod Header
+pub mod Adding
+pub mod DensePaths
+pub mod Accepting
+pub mod Judging
+pub mod Examples
+pub mod SparsePaths

@@ -1,0 +1,127 @@
+// Adding a state. Ported from `Accumulator::add_view` in src/accumulator.rs of zetasketch-rs at commit 9abe68bf87 (Apache-2.0, see NOTICE). Changed:
+// every question is asked before anything but `scratch` is written, a refusal is document 01's number, and the accumulator goes in and
+// comes out by value beside its lent memory.
+ghost use mathlib.Core.Path.{_≡_};
+ghost use mathlib.Core.Bool.{true};
+ghost use lib.ListN.{length, take};
+ghost use Rattle.wire.specs.State.{stateOf};
+ghost use Rattle.rollup.specs.Accumulator.{mem, fits as headFits};
+ghost use Rattle.rollup.specs.Adding.{acceptedAfter, Shows, AddPost};
+ghost use Rattle.rollup.specs.Accepting.{AcceptPre, decodedRefusal};
+use crate::accumulator::Accumulator;
+use crate::accumulator::Form;
+use crate::dense_paths;
+use crate::fitting;
+use crate::judging;
+use crate::judging::Judged;
+use crate::sparse_paths;
+use lists::decoding::Decoded;
+use wire::state::Fields;
+
+// The answer's number, 0 for accepted, and the accumulator after the call.
+pub struct Added {
+    pub answer: u8,
+    pub head: Accumulator,
+}
+
+// Document 01's number of a refusal, for the `else` of a `let`.
+fn decoded_refusal(r: Decoded) -> u8
+    ensures { λ n. ⌜ n ≡ decodedRefusal r ⌝ }
+{
+    match r {
+        Decoded::Done(_) => 0,
+        Decoded::Refused(n) => n,
+    }
+}
+
+// The path of a state that is accepted, by the roll-up's form. The first k cells of `scratch` hold the values of its list.
+fn accept(
+    a: Accumulator,
+    f: Fields,
+    bytes: &[u8],
+    registers: &mut [u8],
+    sparse: &mut [u32],
+    pending: &mut [u32],
+    scratch: &mut [u32],
+    k: usize,
+) -> Accumulator
+    requires { ⌜ AcceptPre a (mem (now registers) (now sparse) (now pending)) (now scratch) (stateOf (now bytes) f) k ⌝ }
+    ensures { λ r. ⌜ Shows (acceptedAfter (a .form) a (mem (now (registers .entry)) (now (sparse .entry)) (now (pending .entry))) (stateOf (now (bytes .entry)) f) (take k (now (scratch .entry)))) r (mem (now (registers .exit)) (now (sparse .exit)) (now (pending .exit))) ⌝ }
+{
+    let form = a.form;
+    match form {
+        Form::Unstarted => dense_paths::start(f, bytes, registers, sparse, &scratch[..k]),
+        Form::Sparse => sparse_paths::accept_sparse(
+            a,
+            f,
+            bytes,
+            registers,
+            sparse,
+            pending,
+            scratch,
+            k,
+        ),
+        Form::Dense => dense_paths::accept_dense(a, f, bytes, registers, &scratch[..k]),
+    }
+}
+
+// Questions 2 to 20, of a head that fits, and then the path.
+pub fn add_fitting(
+    a: Accumulator,
+    registers: &mut [u8],
+    sparse: &mut [u32],
+    pending: &mut [u32],
+    scratch: &mut [u32],
+    bytes: &[u8],
+) -> Added
+    requires { ⌜ headFits a (mem (now registers) (now sparse) (now pending)) ≡ true ⌝ }
+    ensures { λ r. ⌜ AddPost a (mem (now (registers .entry)) (now (sparse .entry)) (now (pending .entry))) (length (now (scratch .entry))) (now (bytes .entry)) r (mem (now (registers .exit)) (now (sparse .exit)) (now (pending .exit))) ⌝ }
+{
+    let judged = judging::judge(a, bytes);
+    let Judged::State(f) = judged else {
+        return Added {
+            answer: judging::judged_refusal(judged),
+            head: a,
+        };
+    };
+    if !judging::has_room(
+        a,
+        f,
+        bytes,
+        &registers[..],
+        &sparse[..],
+        &pending[..],
+        &scratch[..],
+    ) {
+        return Added {
+            answer: 17,
+            head: a,
+        };
+    }
+    let read = judging::decode_listed(bytes, f, scratch);
+    let Decoded::Done(k) = read else {
+        return Added {
+            answer: decoded_refusal(read),
+            head: a,
+        };
+    };
+    let head = accept(a, f, bytes, registers, sparse, pending, scratch, k);
+    Added { answer: 0, head }
+}
+
+// Adds a state to a roll-up: document 01's questions in their order, and then the path.
+pub fn add(
+    a: Accumulator,
+    registers: &mut [u8],
+    sparse: &mut [u32],
+    pending: &mut [u32],
+    scratch: &mut [u32],
+    bytes: &[u8],
+) -> Added
+    ensures { λ r. ⌜ AddPost a (mem (now (registers .entry)) (now (sparse .entry)) (now (pending .entry))) (length (now (scratch .entry))) (now (bytes .entry)) r (mem (now (registers .exit)) (now (sparse .exit)) (now (pending .exit))) ⌝ }
+{
+    if !fitting::fits(a, &registers[..], &sparse[..], &pending[..]) {
+        return Added { answer: 1, head: a };
+    }
+    add_fitting(a, registers, sparse, pending, scratch, bytes)
+}

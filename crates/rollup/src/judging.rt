@@ -1,0 +1,217 @@
+// Judging a state before anything is written: questions 2 to 16 (`judge`), 17 (`has_room`) and 18 to 20 (`decode_listed`). Ported from the first
+// part of `Accumulator::add_view` and from `start` and `merge_sparse` in src/accumulator.rs of zetasketch-rs at commit 9abe68bf87 (Apache-2.0,
+// see NOTICE). Changed: every question stands in front of the first store, document 01's numbers are in the place of `Result` and strings,
+// and a list is read into a lent slice.
+ghost use mathlib.Core.Path.{_≡_};
+ghost use mathlib.Core.List.{List};
+ghost use mathlib.Core.Bool.{_&&_, not};
+ghost use Prim.Native.Nat.{ℕ, _+_};
+ghost use lib.Dec.{leb};
+ghost use lib.ListN.{length};
+ghost use Rattle.wire.specs.State.{stateOf, HllInside};
+ghost use Rattle.lists.specs.Lists.{Decodes};
+ghost use Rattle.rollup.specs.Accumulator.{mem};
+ghost use Rattle.rollup.specs.Header.{dataOf, isEmpty};
+ghost use Rattle.rollup.specs.Adding.{isStarted, masksMeet, hasField, samePair, carried, judgeState, wantedPrecision, hasRoom, listedIn};
+ghost use Rattle.rollup.specs.Judging.{judgedMeans, JudgedInside, JudgePost, judgedRefusal, parsedRefusal, RoomPre, ListedPre};
+use crate::accumulator::Accumulator;
+use crate::accumulator::Form;
+use crate::header;
+use lists::decoding;
+use lists::decoding::Decoded;
+use lists::registers;
+use lists::values::Sparse;
+use wire::state;
+use wire::state::Fields;
+use wire::state::Parsed;
+
+// A state that was accepted up to question 16, or document 01's number of the refusal.
+pub enum Judged {
+    State(Fields),
+    Refused(u8),
+}
+
+// Document 01's number of a refusal, for the `else` of a `let`.
+pub fn judged_refusal(r: Judged) -> u8
+    ensures { λ n. ⌜ n ≡ judgedRefusal r ⌝ }
+{
+    match r {
+        Judged::State(_) => 0,
+        Judged::Refused(n) => n,
+    }
+}
+
+fn parsed_refusal(r: Parsed) -> u8
+    ensures { λ n. ⌜ n ≡ parsedRefusal r ⌝ }
+{
+    match r {
+        Parsed::Read(_) => 0,
+        Parsed::Refused(n) => n,
+    }
+}
+
+fn is_started(a: Accumulator) -> bool
+    ensures { λ r. ⌜ r ≡ isStarted (a .form) ⌝ }
+{
+    let form = a.form;
+    match form {
+        Form::Unstarted => false,
+        Form::Sparse => true,
+        Form::Dense => true,
+    }
+}
+
+// 15: the masks meet, if there are two.
+fn masks_meet(a: Accumulator, f: Fields) -> bool
+    ensures { λ r. ⌜ ((s : List ℕ) → r ≡ masksMeet a (stateOf s f)) ⌝ }
+{
+    if !is_started(a) {
+        return true;
+    }
+    a.allowed & header::allowed_types(f.value_type) != 0
+}
+
+// 16: data bytes beside a sparse field, even an empty one.
+fn has_both(bytes: &[u8], f: Fields) -> bool
+    ensures { λ r. ⌜ r ≡ not (isEmpty (dataOf (stateOf (now (bytes .entry)) f))) && hasField (stateOf (now (bytes .entry)) f .hll .sparseData) ⌝ }
+{
+    if !header::has_data(bytes, f) {
+        return false;
+    }
+    let h = f.hll;
+    h.sparse_data_present
+}
+
+// 16: a list roll-up takes states of its own pair.
+fn same_pair(a: Accumulator, f: Fields) -> bool
+    ensures { λ r. ⌜ ((s : List ℕ) → r ≡ samePair (a .form) a (stateOf s f)) ⌝ }
+{
+    let h = f.hll;
+    let form = a.form;
+    match form {
+        Form::Unstarted => true,
+        Form::Sparse => {
+            if a.precision != h.precision {
+                return false;
+            }
+            a.sparse_precision == h.sparse_precision
+        }
+        Form::Dense => true,
+    }
+}
+
+// 16.
+fn is_carried(a: Accumulator, bytes: &[u8], f: Fields) -> bool
+    ensures { λ r. ⌜ r ≡ carried a (stateOf (now (bytes .entry)) f) ⌝ }
+{
+    let h = f.hll;
+    if h.sparse_precision == 0 {
+        return false;
+    }
+    if has_both(bytes, f) {
+        return false;
+    }
+    same_pair(a, f)
+}
+
+// 7 to 16.
+fn judge_fields(a: Accumulator, bytes: &[u8], f: Fields) -> Judged
+    requires { ⌜ HllInside (now bytes) (f .hll) ⌝ }
+    ensures { λ r. ⌜ (judgedMeans (now (bytes .entry)) r ≡ judgeState a (stateOf (now (bytes .entry)) f)) × JudgedInside (now (bytes .entry)) r ⌝ }
+{
+    let n = header::validate_header(bytes, f);
+    if n != 0 {
+        return Judged::Refused(n);
+    }
+    if !masks_meet(a, f) {
+        return Judged::Refused(15);
+    }
+    if !is_carried(a, bytes, f) {
+        return Judged::Refused(16);
+    }
+    Judged::State(f)
+}
+
+// 2 to 16.
+pub fn judge(a: Accumulator, bytes: &[u8]) -> Judged
+    ensures { λ r. ⌜ JudgePost a (now (bytes .entry)) r ⌝ }
+{
+    if 2147483647 < bytes.len() {
+        return Judged::Refused(2);
+    }
+    let r = state::parse(bytes);
+    let Parsed::Read(f) = r else {
+        return Judged::Refused(parsed_refusal(r));
+    };
+    judge_fields(a, bytes, f)
+}
+
+// The precision whose registers 17 asks for.
+fn wanted_precision(a: Accumulator, f: Fields) -> u32
+    ensures { λ r. ⌜ ((s : List ℕ) → r ≡ wantedPrecision (a .form) a (stateOf s f)) ⌝ }
+{
+    let h = f.hll;
+    let form = a.form;
+    match form {
+        Form::Unstarted => h.precision,
+        Form::Sparse => a.precision,
+        Form::Dense => a.precision,
+    }
+}
+
+// Whether a list takes kept, waiting and new values. The sum is never made, so that it cannot wrap.
+fn takes(cells: usize, kept: usize, waiting: usize, new: usize) -> bool
+    ensures { λ r. ⌜ r ≡ leb (kept + waiting + new) cells ⌝ }
+{
+    if cells < kept {
+        return false;
+    }
+    let after_kept = cells - kept;
+    if after_kept < waiting {
+        return false;
+    }
+    new <= after_kept - waiting
+}
+
+// 17. `bytes` are those that `f` was read from.
+pub fn has_room(
+    a: Accumulator,
+    f: Fields,
+    bytes: &[u8],
+    registers: &[u8],
+    sparse: &[u32],
+    pending: &[u32],
+    scratch: &[u32],
+) -> bool
+    requires { ⌜ RoomPre a (mem (now registers) (now sparse) (now pending)) (stateOf (now bytes) f) ⌝ }
+    ensures { λ r. ⌜ r ≡ hasRoom a (mem (now (registers .entry)) (now (sparse .entry)) (now (pending .entry))) (length (now (scratch .entry))) (stateOf (now (bytes .entry)) f) ⌝ }
+{
+    if registers.len() < registers::register_bytes(wanted_precision(a, f)) {
+        return false;
+    }
+    let d = state::sparse_data(bytes, f);
+    let n = d.len();
+    if n == 0 {
+        return true;
+    }
+    if !takes(sparse.len(), a.sparse_len, a.pending_len, n) {
+        return false;
+    }
+    if !takes(pending.len(), a.sparse_len, a.pending_len, n) {
+        return false;
+    }
+    takes(scratch.len(), a.sparse_len, a.pending_len, n)
+}
+
+// 18 to 20: the list's values, into `scratch`. A state without list bytes has no values, and its s may be one that no list can have.
+pub fn decode_listed(bytes: &[u8], f: Fields, scratch: &mut [u32]) -> Decoded
+    requires { ⌜ ListedPre (stateOf (now bytes) f) (length (now scratch)) ⌝ }
+    ensures { λ r. ⌜ Decodes (listedIn (stateOf (now (bytes .entry)) f)) r (now (scratch .exit)) ⌝ }
+{
+    let h = f.hll;
+    let d = state::sparse_data(bytes, f);
+    if d.len() == 0 {
+        return Decoded::Done(0);
+    }
+    decoding::decode_validated_into(d, Sparse::new(h.precision, h.sparse_precision), scratch)
+}

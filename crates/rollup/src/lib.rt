@@ -1,0 +1,13 @@
+// The roll-up: header rules, the accumulator and adding (document 01, modules 5 and 6).
+//
+// Ported from src/hll.rs (validation) and src/accumulator.rs of zetasketch-rs at commit 9abe68bf87 (Apache-2.0, see NOTICE), without the
+// fallback sketch, hashing and estimates. Changed: lent slices and counts in the head in the place of `Vec` and scratch swaps, document 01's
+// numbers in the place of `Result` and strings, and a contract on every function.
+
+pub mod accumulator;
+pub mod adding;
+pub mod dense_paths;
+pub mod fitting;
+pub mod header;
+pub mod judging;
+pub mod sparse_paths;
