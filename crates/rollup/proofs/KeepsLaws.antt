@@ -1,4 +1,4 @@
--- Every path leaves what fits: question 1 is answered with yes after every call that it was before.
+-- Every path, and every refusal, leaves what fits, where what it began with fits: after it question 1 is answered with yes again.
 use Prim.Native.Nat.{ℕ, zero, suc, _+_, _-_, _*_, _/_, _^_, _<_, _≤_, min}
 use mathlib.Core.Path.{_≡_, refl, sym, ap, _∙_, subst}
 use mathlib.Core.Bool.{Bool, true, false, cond, _&&_, not}
