@@ -30,9 +30,13 @@ pub record Outcome : Type 0 where
   pub answer : ℕ
   pub after : After
 
+-- Nothing is changed.
+abbrev pub unchanged : Accumulator → Mem → After
+unchanged a m = record { head = a; registers = m .registers; kept = keptOf a m; waiting = waitingOf a m }
+
 -- "A refusal returns its number and the head unchanged; kept, registers and output too."
 abbrev pub refuse : ℕ → Accumulator → Mem → Outcome
-refuse n a m = record { answer = n; after = record { head = a; registers = m .registers; kept = keptOf a m; waiting = waitingOf a m } }
+refuse n a m = record { answer = n; after = unchanged a m }
 
 abbrev pub accept : After → Outcome
 accept x = record { answer = 0; after = x }

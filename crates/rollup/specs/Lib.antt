@@ -2,6 +2,8 @@ pub mod Accumulator
 pub mod Fitting
 pub mod Header
 pub mod Adding
+pub mod Writing
+pub mod Calls
 pub mod DensePaths
 pub mod Accepting
 pub mod Judging

@@ -11,3 +11,4 @@ pub mod fitting;
 pub mod header;
 pub mod judging;
 pub mod sparse_paths;
+pub mod writing;

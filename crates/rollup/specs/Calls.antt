@@ -1,0 +1,145 @@
+-- Demand 3: one claim about a whole list of calls (document 01, "Lists of calls"). A run is made of the records that the contracts of `add` and
+-- `write` cite; what it comes to is said of the states that were accepted alone.
+use mathlib.Core.Path.{_≡_}
+use mathlib.Core.List.{List, [], _∷_, _++_, map, List·Memᴰ}
+use mathlib.Core.Bool.{cond}
+use Prim.Native.Nat.{ℕ, _-_, _^_, _<_, min}
+use lib.Dec.{eqb}
+use lib.Bits.{bitAnd}
+use lib.ListN.{length}
+use Rattle.wire.specs.Reading.{Read, got, refused}
+use Rattle.wire.specs.State.{State, emptyState, readState}
+use Rattle.lists.specs.Values.{rank}
+use Rattle.lists.specs.Registers.{registersOf, rankAt, larger, tabulate, lowered}
+use Rattle.rollup.specs.declared.accumulator.Form.{Form}
+use Rattle.rollup.specs.declared.accumulator.Form.the-variants.{Unstarted, Sparse, Dense}
+use Rattle.rollup.specs.declared.accumulator.Accumulator.{Accumulator}
+use Rattle.rollup.specs.declared.adding.Added.{Added}
+use Rattle.rollup.specs.declared.writing.Written.{Written}
+use Rattle.rollup.specs.Accumulator.{Mem, keptOf, waitingOf, fresh}
+use Rattle.rollup.specs.Header.{dataOf, isEmpty, maskOf}
+use Rattle.rollup.specs.Adding.{listedIn, signedMin, addOutcome, AddPost}
+use Rattle.rollup.specs.Writing.{writeOutcome, WritePost}
+
+-- ---- runs
+
+-- "The calls are adding and writing": a state's bytes and the answer; an output as it was lent, and the answer.
+pub data Call : Type 0 where
+  added : List ℕ → ℕ → Call
+  wrote : List ℕ → ℕ → Call
+
+-- "In any number and order. The first gets a fresh head and lent memory of any lengths and contents, each later one both as the last left them."
+-- The latest call stands first. `room` is the length of `scratch`, which no call changes. `AddPost` and `WritePost` are what the functions promise,
+-- so whatever a call leaves free is arbitrary between the calls.
+pub data Run (room : ℕ) : List Call → Accumulator → Mem → Type 0 where
+  begun : (m : Mem) → Run room [] fresh m
+  adding : {calls : List Call} {a : Accumulator} {m : Mem} (bytes : List ℕ) (r : Added) (n : Mem)
+      → Run room calls a m → AddPost a m room bytes r n → Run room (added bytes (r .answer) ∷ calls) (r .head) n
+  writing : {calls : List Call} {a : Accumulator} {m : Mem} (out : List ℕ) (r : Written) (n : Mem) (after : List ℕ)
+      → Run room calls a m → WritePost a m room out r n after → Run room (wrote out (r .answer) ∷ calls) a n
+
+-- ---- what the accepted states come to
+
+-- "The definition is fed the added states and which of them answered 0, nothing else; those are the accepted ones."
+unfoldable pub accepted : List Call → List (List ℕ)
+accepted [] = []
+accepted (added bytes n ∷ calls) = cond (eqb n 0) (bytes ∷ accepted calls) (accepted calls)
+accepted (wrote out n ∷ calls) = accepted calls
+
+abbrev pub valueOr : {A : Type 0} → A → Read A → A
+valueOr x (got y rest) = y
+valueOr x (refused n) = x
+
+-- The state that bytes are, and the values of its list. An accepted state is read, and so is its list.
+unfoldable pub stateIn : List ℕ → State
+stateIn bytes = valueOr emptyState (readState bytes)
+
+unfoldable pub valuesIn : State → List ℕ
+valuesIn st = valueOr [] (listedIn st)
+
+abbrev pub states : List Call → List State
+states calls = map stateIn (accepted calls)
+
+-- "Per index the largest rank of its listed values, 0 where none is."
+unfoldable pub listRegisters : ℕ → ℕ → List ℕ → List ℕ
+listRegisters p s vs = tabulate (λ j. rankAt p s j vs) 0 (2 ^ p)
+
+-- "Its registers are its data bytes if it has any, else per index the largest rank of its listed values."
+unfoldable pub registersIn : State → List ℕ
+registersIn st = cond (isEmpty (dataOf st)) (listRegisters (st .hll .precision) (st .hll .sparsePrecision) (valuesIn st)) (dataOf st)
+
+-- One thing of all states: of each state, two by two.
+unfoldable pub over : {A : Type 0} → A → (A → A → A) → (State → A) → List State → A
+over none both of [] = none
+over none both of (st ∷ []) = of st
+over none both of (st ∷ st′ ∷ sts) = both (over none both of (st′ ∷ sts)) (of st)
+
+-- "p and s are the smallest of the accepted states', s as a signed number; the mask is the bits common to the masks of their value types." With
+-- none accepted they are the fresh head's.
+abbrev pub smallestPrecision : List State → ℕ
+smallestPrecision = over 0 min (λ st. st .hll .precision)
+
+abbrev pub smallestSparsePrecision : List State → ℕ
+smallestSparsePrecision = over 0 signedMin (λ st. st .hll .sparsePrecision)
+
+abbrev pub commonBits : List State → ℕ
+commonBits = over 0 bitAnd (λ st. maskOf (st .valueType))
+
+-- "Register j of a state of precision p + d lowers by d bits, as in module 3, to index j / 2^d; the largest that lands on an index is the register
+-- there." "With none accepted … there are no registers."
+unfoldable pub largestRegisters : List State → List ℕ
+largestRegisters sts =
+    let q = smallestPrecision sts in
+    over [] larger (λ st. lowered (st .hll .precision - q) q (registersIn st)) sts
+
+-- ---- the roll-up's registers
+
+-- "If dense, its first 2^p register bytes; if sparse, read from kept and waiting, up to their counts, as from a state's list; if unstarted, none."
+unfoldable pub rollupRegisters : Form → Accumulator → Mem → List ℕ
+rollupRegisters Unstarted a m = []
+rollupRegisters Sparse a m = listRegisters (a .precision) (a .«sparse_precision») (keptOf a m ++ waitingOf a m)
+rollupRegisters Dense a m = registersOf (a .precision) (m .registers)
+
+-- ---- the claim
+
+-- "Every call's answer, writing's too, is the one that the questions above give for the head, lent memory, state bytes and output of that call."
+pub Answered : {room : ℕ} {calls : List Call} {a : Accumulator} {m : Mem} → Run room calls a m → Type 0
+Answered (begun m) = Unit
+Answered {room} (adding {a = a} {m = m} bytes r n run post) = Answered run × (r .answer ≡ addOutcome a m room bytes .answer)
+Answered {room} (writing {a = a} {m = m} out r n after run post) = Answered run × (r .answer ≡ writeOutcome a m room (length out) .answer)
+
+-- The premise: no value listed in an accepted state has rank 0.
+pub NoZeroRank : List State → Type 0
+NoZeroRank sts =
+    (st : State) → List·Memᴰ st sts → (v : ℕ) → List·Memᴰ v (valuesIn st) → 0 < rank (st .hll .precision) (st .hll .sparsePrecision) v
+
+pub record Agrees (room : ℕ) (calls : List Call) (a : Accumulator) (m : Mem) (run : Run room calls a m) : Type 0 where
+  pub answers : Answered run
+  pub none : accepted calls ≡ [] → a ≡ fresh
+  pub precision : a .precision ≡ smallestPrecision (states calls)
+  pub sparse-precision : a .«sparse_precision» ≡ smallestSparsePrecision (states calls)
+  pub mask : a .allowed ≡ commonBits (states calls)
+  pub registers : rollupRegisters (a .form) a m ≡ largestRegisters (states calls)
+
+pub DemandThree : Type 0
+DemandThree = (room : ℕ) (calls : List Call) (a : Accumulator) (m : Mem) (run : Run room calls a m) → NoZeroRank (states calls) → Agrees room calls a m run
+
+-- ---- its consequence
+
+-- Two lists of calls that accepted the same set of states, in whatever order and however often.
+pub record SameStates (c d : List Call) : Type 0 where
+  pub there : (bytes : List ℕ) → List·Memᴰ bytes (accepted c) → List·Memᴰ bytes (accepted d)
+  pub back : (bytes : List ℕ) → List·Memᴰ bytes (accepted d) → List·Memᴰ bytes (accepted c)
+
+-- Two roll-ups that are alike in what is compared.
+pub record Alike (a : Accumulator) (m : Mem) (b : Accumulator) (n : Mem) : Type 0 where
+  pub precision : a .precision ≡ b .precision
+  pub sparse-precision : a .«sparse_precision» ≡ b .«sparse_precision»
+  pub mask : a .allowed ≡ b .allowed
+  pub registers : rollupRegisters (a .form) a m ≡ rollupRegisters (b .form) b n
+
+-- Whatever the order, the repeats, the refusals and the writes between, and whatever memory was lent.
+pub OrderFree : Type 0
+OrderFree =
+    (room room′ : ℕ) (c d : List Call) (a b : Accumulator) (m n : Mem) → Run room c a m → Run room′ d b n → NoZeroRank (states c) → SameStates c d
+    → Alike a m b n
