@@ -29,14 +29,14 @@ pub data Call : Type 0 where
   wrote : List ℕ → ℕ → Call
 
 -- "In any number and order. The first gets a fresh head and lent memory of any lengths and contents, each later one both as the last left them."
--- The latest call stands first. `room` is the length of `scratch`, which no call changes. `AddPost` and `WritePost` are what the functions promise,
--- so whatever a call leaves free is arbitrary between the calls.
-pub data Run (room : ℕ) : List Call → Accumulator → Mem → Type 0 where
-  begun : (m : Mem) → Run room [] fresh m
+-- The latest call stands first. `room` is the length of `scratch`, which no call changes, and `first` is the memory that the first call gets. `AddPost`
+-- and `WritePost` are what the functions promise, so whatever a call leaves free is arbitrary between the calls.
+pub data Run (room : ℕ) (first : Mem) : List Call → Accumulator → Mem → Type 0 where
+  begun : Run room first [] fresh first
   adding : {calls : List Call} {a : Accumulator} {m : Mem} (bytes : List ℕ) (r : Added) (n : Mem)
-      → Run room calls a m → AddPost a m room bytes r n → Run room (added bytes (r .answer) ∷ calls) (r .head) n
+      → Run room first calls a m → AddPost a m room bytes r n → Run room first (added bytes (r .answer) ∷ calls) (r .head) n
   writing : {calls : List Call} {a : Accumulator} {m : Mem} (out : List ℕ) (r : Written) (n : Mem) (after : List ℕ)
-      → Run room calls a m → WritePost a m room out r n after → Run room (wrote out (r .answer) ∷ calls) a n
+      → Run room first calls a m → WritePost a m room out r n after → Run room first (wrote out (r .answer) ∷ calls) a n
 
 -- ---- what the accepted states come to
 
@@ -103,8 +103,8 @@ rollupRegisters Dense a m = registersOf (a .precision) (m .registers)
 -- ---- the claim
 
 -- "Every call's answer, writing's too, is the one that the questions above give for the head, lent memory, state bytes and output of that call."
-pub Answered : {room : ℕ} {calls : List Call} {a : Accumulator} {m : Mem} → Run room calls a m → Type 0
-Answered (begun m) = Unit
+pub Answered : {room : ℕ} {first : Mem} {calls : List Call} {a : Accumulator} {m : Mem} → Run room first calls a m → Type 0
+Answered begun = Unit
 Answered {room} (adding {a = a} {m = m} bytes r n run post) = Answered run × (r .answer ≡ addOutcome a m room bytes .answer)
 Answered {room} (writing {a = a} {m = m} out r n after run post) = Answered run × (r .answer ≡ writeOutcome a m room (length out) .answer)
 
@@ -113,7 +113,7 @@ pub NoZeroRank : List State → Type 0
 NoZeroRank sts =
     (st : State) → List·Memᴰ st sts → (v : ℕ) → List·Memᴰ v (valuesIn st) → 0 < rank (st .hll .precision) (st .hll .sparsePrecision) v
 
-pub record Agrees (room : ℕ) (calls : List Call) (a : Accumulator) (m : Mem) (run : Run room calls a m) : Type 0 where
+pub record Agrees (room : ℕ) (first : Mem) (calls : List Call) (a : Accumulator) (m : Mem) (run : Run room first calls a m) : Type 0 where
   pub answers : Answered run
   pub none : accepted calls ≡ [] → a ≡ fresh
   pub precision : a .precision ≡ smallestPrecision (states calls)
@@ -122,7 +122,9 @@ pub record Agrees (room : ℕ) (calls : List Call) (a : Accumulator) (m : Mem) (
   pub registers : rollupRegisters (a .form) a m ≡ largestRegisters (states calls)
 
 pub DemandThree : Type 0
-DemandThree = (room : ℕ) (calls : List Call) (a : Accumulator) (m : Mem) (run : Run room calls a m) → NoZeroRank (states calls) → Agrees room calls a m run
+DemandThree =
+    (room : ℕ) (first : Mem) (calls : List Call) (a : Accumulator) (m : Mem) (run : Run room first calls a m) → NoZeroRank (states calls)
+    → Agrees room first calls a m run
 
 -- ---- its consequence
 
@@ -141,5 +143,6 @@ pub record Alike (a : Accumulator) (m : Mem) (b : Accumulator) (n : Mem) : Type 
 -- Whatever the order, the repeats, the refusals and the writes between, and whatever memory was lent.
 pub OrderFree : Type 0
 OrderFree =
-    (room room′ : ℕ) (c d : List Call) (a b : Accumulator) (m n : Mem) → Run room c a m → Run room′ d b n → NoZeroRank (states c) → SameStates c d
+    (room room′ : ℕ) (first first′ : Mem) (c d : List Call) (a b : Accumulator) (m n : Mem) → Run room first c a m → Run room′ first′ d b n
+    → NoZeroRank (states c) → SameStates c d
     → Alike a m b n

@@ -1,0 +1,224 @@
+-- Walking the chain of a batch: the walk so far is a run over the states so far, and what is left of the chain completes them. One law for the start,
+-- one for a turn, and one for each way that the walk ends.
+use Prim.Native.Nat.{ℕ, zero, suc, _+_, _<_, _≤_}
+use mathlib.Core.Path.{_≡_, refl, sym, ap, ap₂, _∙_, subst}
+use mathlib.Core.List.{List, [], _∷_, _++_, append-assoc, append-nil}
+use mathlib.Core.Bool.{Bool, true, false, cond, _&&_}
+use native.Mathlib.Omega.{arith}
+use lib.Dec.{ltb, leb, eqb}
+use lib.ListN.{length, take, set, length-set, length-append}
+use lib.Seq.{take-suc-set, take-all, take-at, length-take-le}
+use borrow.Author.Tests.{leb-true, ltb-true, lt-ltb, le-leb, lt-leb, eq-eqb, ne-eqb}
+use Rattle.lists.proofs.OrderLaws.{both-true, true-both}
+use Rattle.rollup.specs.declared.accumulator.Accumulator.{Accumulator}
+use Rattle.rollup.specs.declared.adding.Added.{Added}
+use Rattle.rollup.specs.Accumulator.{Mem, fresh}
+use Rattle.rollup.specs.Adding.{SameLengths, AddPost}
+use Rattle.rollup.specs.Calls.{Call, added, Run, begun, adding}
+use Rattle.batch.specs.declared.records.Ending.{Ending}
+use Rattle.batch.specs.declared.records.Ending.the-variants.{Whole, Refused, Full}
+use Rattle.batch.specs.declared.records.Rolled.{Rolled}
+use Rattle.batch.specs.Chain.{wordAt, nextAt, lengthAt, stateAt, isRecord, Chain, ends, onto, chainFrom, isBatch, chainOf}
+use Rattle.batch.specs.Batch.{addedAll, endingFor, statesFor, RolledPost}
+
+-- ---- records
+
+-- What 25 says of an index.
+pub record Inside (b : List ℕ) (before i : ℕ) : Type 0 where
+  pub low : 4 ≤ i
+  pub above : before < i
+  pub inside : i + 8 + lengthAt b i ≤ length b
+
+pub record-inside : (b : List ℕ) (before i : ℕ) → isRecord b before i ≡ true → Inside b before i
+unfolding isRecord
+record-inside b before i e =
+    let x = both-true (leb 4 i && ltb before i) (leb (i + 8 + lengthAt b i) (length b)) e in
+    let y = both-true (leb 4 i) (ltb before i) (x .0) in
+    record {
+      low = leb-true 4 i (y .0);
+      above = ltb-true before i (y .1);
+      inside = leb-true (i + 8 + lengthAt b i) (length b) (x .1);
+    }
+
+pub inside-record : (b : List ℕ) (before i : ℕ) → 4 ≤ i → before < i → i + 8 + lengthAt b i ≤ length b → isRecord b before i ≡ true
+unfolding isRecord
+inside-record b before i h k l =
+    true-both (leb 4 i && ltb before i) (leb (i + 8 + lengthAt b i) (length b)) (true-both (leb 4 i) (ltb before i) (le-leb 4 i h) (lt-ltb before i k))
+    (le-leb (i + 8 + lengthAt b i) (length b) l)
+
+-- ---- the chain from an index on
+
+chain-end : (n : ℕ) (b : List ℕ) (before i : ℕ) → i ≡ 0 → chainFrom n b before i ≡ ends 0
+unfolding chainFrom
+chain-end zero b before i e = refl
+chain-end (suc n) b before i e =
+    ap (λ (t : Bool). cond t (ends 0) (cond (isRecord b before i) (onto (stateAt b i) (chainFrom n b i (nextAt b i))) (ends 25))) (eq-eqb i 0 e)
+
+-- Where the bound is large enough.
+module _ (b : List ℕ) (before i : ℕ) (within : before < length b) (index : i ≡ 0 → ⊥) where
+  chain-bad : (n : ℕ) → length b ≤ before + n → isRecord b before i ≡ false → chainFrom n b before i ≡ ends 25
+  unfolding chainFrom
+  chain-bad zero h e = absurd (let z : ⊥ = omega arith in z)
+  chain-bad (suc n) h e =
+      let next = onto (stateAt b i) (chainFrom n b i (nextAt b i)) in
+      ap (λ (t : Bool). cond t (ends 0) (cond (isRecord b before i) next (ends 25))) (ne-eqb i 0 index)
+      ∙ ap (λ (t : Bool). cond t next (ends 25)) e
+
+  record Next (n : ℕ) : Type 0 where
+    fewer : ℕ
+    less : n ≡ suc fewer
+    same : chainFrom n b before i ≡ onto (stateAt b i) (chainFrom fewer b i (nextAt b i))
+
+  chain-next : (n : ℕ) → length b ≤ before + n → isRecord b before i ≡ true → Next n
+  unfolding chainFrom
+  chain-next zero h e = absurd (let z : ⊥ = omega arith in z)
+  chain-next (suc n) h e =
+      let next = onto (stateAt b i) (chainFrom n b i (nextAt b i)) in
+      record {
+        fewer = n;
+        less = refl;
+        same =
+            ap (λ (t : Bool). cond t (ends 0) (cond (isRecord b before i) next (ends 25))) (ne-eqb i 0 index)
+            ∙ ap (λ (t : Bool). cond t next (ends 25)) e;
+      }
+
+-- ---- the calls
+
+added-last : (states : List (List ℕ)) (answers : List ℕ) (s : List ℕ) (n : ℕ) (calls : List Call) → length states ≡ length answers
+    → addedAll (states ++ s ∷ []) (answers ++ n ∷ []) calls ≡ added s n ∷ addedAll states answers calls
+unfolding addedAll
+added-last [] [] s n calls e = refl
+added-last [] (m ∷ answers) s n calls e = absurd (let z : ⊥ = omega arith in z)
+added-last (t ∷ states) [] s n calls e = absurd (let z : ⊥ = omega arith in z)
+added-last (t ∷ states) (m ∷ answers) s n calls e = added-last states answers s n (added t m ∷ calls) (let z : length states ≡ length answers = omega arith in z)
+
+-- ---- the walk
+
+pub record Going (batch : List ℕ) (first : Mem) (room before at k : ℕ) (a : Accumulator) (m : Mem) (cells : ℕ) (answers : List ℕ) : Type 0 where
+  pub left : ℕ
+  pub done : List (List ℕ)
+  pub enough : length batch ≤ before + left
+  pub within : before < length batch
+  pub count : length done ≡ k
+  pub few : k ≤ cells
+  pub long : length answers ≡ cells
+  pub states : chainOf batch .states ≡ done ++ chainFrom left batch before at .states
+  pub ending : chainOf batch .ending ≡ chainFrom left batch before at .ending
+  pub run : Run room first (addedAll done (take k answers) []) a m
+  pub lengths : SameLengths first m
+
+pub same-lengths : (m : Mem) → SameLengths m m
+same-lengths m = record { registers = refl; sparse = refl; pending = refl }
+
+pub going-start : (batch : List ℕ) (m : Mem) (room at : ℕ) (a : Accumulator) (cells : ℕ) (answers : List ℕ) → isBatch batch ≡ true → at ≡ wordAt batch 0
+    → a ≡ fresh → length answers ≡ cells → Going batch m room 0 at 0 a m cells answers
+unfolding chainOf addedAll
+going-start batch m room at a cells answers ok e f l =
+    let size = both-true (leb 4 (length batch)) (leb (length batch) 65536) ok in
+    let four = leb-true 4 (length batch) (size .0) in
+    let all = chainFrom (length batch) batch 0 (wordAt batch 0) in
+    let whole : chainOf batch ≡ chainFrom (length batch) batch 0 at =
+    ap (λ (t : Bool). cond t all (ends 24)) ok ∙ ap (λ (i : ℕ). chainFrom (length batch) batch 0 i) (sym e) in
+    record {
+      left = length batch;
+      done = [];
+      enough = omega arith;
+      within = omega arith;
+      count = refl;
+      few = omega arith;
+      long = l;
+      states = ap (λ (c : Chain). c .states) whole;
+      ending = ap (λ (c : Chain). c .ending) whole;
+      run = subst (λ (h : Accumulator). Run room m [] h m) (sym f) begun;
+      lengths = same-lengths m;
+    }
+
+module _ (batch : List ℕ) (first : Mem) (room before at k : ℕ) (a : Accumulator) (m : Mem) (cells : ℕ) (answers : List ℕ)
+    (g : Going batch first room before at k a m cells answers) where
+  -- The states so far are all of the chain's.
+  all-done : chainFrom (g .left) batch before at .states ≡ [] → chainOf batch .states ≡ g .done
+  all-done e = g .states ∙ ap (λ (l : List (List ℕ)). g .done ++ l) e ∙ append-nil (g .done)
+
+  finished : (n : ℕ) (end : Ending) → chainFrom (g .left) batch before at ≡ ends n → cond (eqb n 0) Whole (Refused n) ≡ end
+      → RolledPost batch first room (record { head = a; records = k; ending = end }) m cells answers
+  finished n end e f =
+      let all = all-done (ap (λ (c : Chain). c .states) e) in
+      let some : length (chainOf batch .states) ≤ cells = omega (arith, ap length all, g .count, g .few) in
+      let front : statesFor batch cells ≡ g .done = take-all cells (chainOf batch .states) some ∙ all in
+      let last : chainOf batch .ending ≡ n = g .ending ∙ ap (λ (c : Chain). c .ending) e in
+      record {
+        records = sym (ap length front ∙ g .count);
+        ending =
+            sym
+            (ap (λ (t : Bool). cond t (cond (eqb (chainOf batch .ending) 0) Whole (Refused (chainOf batch .ending))) Full)
+            (le-leb (length (chainOf batch .states)) cells some)
+            ∙ ap (λ (x : ℕ). cond (eqb x 0) Whole (Refused x)) last
+            ∙ f);
+        run = subst (λ (l : List (List ℕ)). Run room first (addedAll l (take k answers) []) a m) (sym front) (g .run);
+        lengths = g .lengths;
+      }
+
+  pub stop-whole : at ≡ 0 → RolledPost batch first room (record { head = a; records = k; ending = Whole }) m cells answers
+  stop-whole e = finished 0 Whole (chain-end (g .left) batch before at e) refl
+
+  module _ (index : at ≡ 0 → ⊥) where
+    pub stop-refused : isRecord batch before at ≡ false → RolledPost batch first room (record { head = a; records = k; ending = Refused 25 }) m cells answers
+    stop-refused e = finished 25 (Refused 25) (chain-bad batch before at (g .within) index (g .left) (g .enough) e) refl
+
+    module _ (ok : isRecord batch before at ≡ true) where
+      step : Next batch before at (g .within) index (g .left)
+      step = chain-next batch before at (g .within) index (g .left) (g .enough) ok
+
+      more : chainOf batch .states ≡ (g .done ++ stateAt batch at ∷ []) ++ chainFrom (step .fewer) batch at (nextAt batch at) .states
+      more =
+          g .states
+          ∙ ap (λ (c : Chain). g .done ++ c .states) (step .same)
+          ∙ sym (append-assoc (g .done) (stateAt batch at ∷ []) (chainFrom (step .fewer) batch at (nextAt batch at) .states))
+
+      pub stop-full : k ≡ cells → RolledPost batch first room (record { head = a; records = k; ending = Full }) m cells answers
+      stop-full e =
+          let whole : chainOf batch .states ≡ g .done ++ stateAt batch at ∷ chainFrom (step .fewer) batch at (nextAt batch at) .states =
+          g .states ∙ ap (λ (c : Chain). g .done ++ c .states) (step .same) in
+          let many : cells < length (chainOf batch .states) =
+          omega (arith, ap length whole, length-append (g .done) (stateAt batch at ∷ chainFrom (step .fewer) batch at (nextAt batch at) .states), g .count) in
+          let front : statesFor batch cells ≡ g .done =
+          ap (λ (l : List (List ℕ)). take cells l) whole ∙ take-at (g .done) (stateAt batch at ∷ chainFrom (step .fewer) batch at (nextAt batch at) .states) cells (g .count ∙ e) in
+          record {
+            records = sym (ap length front ∙ g .count);
+            ending =
+                sym
+                (ap (λ (t : Bool). cond t (cond (eqb (chainOf batch .ending) 0) Whole (Refused (chainOf batch .ending))) Full)
+                (lt-leb (length (chainOf batch .states)) cells many));
+            run = subst (λ (l : List (List ℕ)). Run room first (addedAll l (take k answers) []) a m) (sym front) (g .run);
+            lengths = g .lengths;
+          }
+
+      pub going-turn : (next : ℕ) (s : List ℕ) (r : Added) (n : Mem) → next ≡ nextAt batch at → s ≡ stateAt batch at → k < cells → AddPost a m room s r n
+          → Going batch first room at next (k + 1) (r .head) n cells (set answers k (r .answer))
+      going-turn next s r n e f room-left post =
+          let put : take (k + 1) (set answers k (r .answer)) ≡ take k answers ++ r .answer ∷ [] =
+          ap (λ (i : ℕ). take i (set answers k (r .answer))) (let z : k + 1 ≡ suc k = omega arith in z)
+          ∙ take-suc-set answers k (r .answer) (omega (arith, g .long)) in
+          let calls : addedAll (g .done ++ stateAt batch at ∷ []) (take (k + 1) (set answers k (r .answer))) [] ≡ added s (r .answer) ∷ addedAll (g .done) (take k answers) [] =
+          ap (λ (l : List ℕ). addedAll (g .done ++ stateAt batch at ∷ []) l []) put
+          ∙ added-last (g .done) (take k answers) (stateAt batch at) (r .answer) [] (g .count ∙ sym (length-take-le k answers (omega (arith, g .long))))
+          ∙ ap (λ (l : List ℕ). added l (r .answer) ∷ addedAll (g .done) (take k answers) []) (sym f) in
+          let i = record-inside batch before at ok in
+          record {
+            left = step .fewer;
+            done = g .done ++ stateAt batch at ∷ [];
+            enough = omega (arith, g .enough, step .less, i .above);
+            within = omega (arith, i .inside);
+            count = length-append (g .done) (stateAt batch at ∷ []) ∙ ap (λ (x : ℕ). x + 1) (g .count);
+            few = omega arith;
+            long = length-set answers k (r .answer) ∙ g .long;
+            states = more ∙ ap (λ (x : ℕ). (g .done ++ stateAt batch at ∷ []) ++ chainFrom (step .fewer) batch at x .states) (sym e);
+            ending = g .ending ∙ ap (λ (c : Chain). c .ending) (step .same) ∙ ap (λ (x : ℕ). chainFrom (step .fewer) batch at x .ending) (sym e);
+            run = subst (λ (c : List Call). Run room first c (r .head) n) (sym calls) (adding s r n (g .run) post);
+            lengths =
+                record {
+                  registers = post .lengths .registers ∙ g .lengths .registers;
+                  sparse = post .lengths .sparse ∙ g .lengths .sparse;
+                  pending = post .lengths .pending ∙ g .lengths .pending;
+                };
+          }

@@ -1,0 +1,3 @@
+// A batch of states, rolled up (document 01, "The batch").
+
+pub mod records;
