@@ -4,5 +4,6 @@ pub mod ReadingLaws
 pub mod StateLaws
 pub mod CompactLaws
 pub mod EncodingLaws
+pub mod BoundLaws
 pub mod FieldLaws
 pub mod RoundTrip

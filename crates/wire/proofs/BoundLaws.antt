@@ -1,0 +1,213 @@
+-- What was read of a list of bytes is no longer than it: the sparse data of a state has no more bytes than the state, and a 32-bit number fits 32 bits.
+use Prim.Native.Nat.{ℕ, zero, suc, _%_, _^_, _<_, _≤_}
+use mathlib.Core.Path.{_≡_, refl, subst}
+use mathlib.Core.List.{List, [], _∷_}
+use mathlib.Core.Bool.{Bool, true, false, cond}
+use mathlib.Core.Option.{some}
+use native.Mathlib.Nat.{mod-lt}
+use native.Mathlib.Omega.{arith}
+use lib.ListN.{length, take, drop, length-take, length-drop}
+use lib.Dec.{ltb, leb, eqb}
+use Rattle.wire.specs.Reading.{Read, got, refused, andThen}
+use Rattle.wire.specs.Varints.{payload, varintOf, lowBits, varint64}
+use Rattle.wire.specs.Fields.{tag, VARINT, I64, LEN, I32, isTag, tagOf, bytesOf, delimitedOf, skipOf, fieldOf, fieldsOf, messageOf}
+use Rattle.wire.specs.State.{HllState, State, emptyHll, emptyState, bytesOrNone, isHllNumber, withHllNumber, isHllBytes, withHllBytes, hllNumberOf, hllBytesOf, otherOf, hllField, readHll, isNumber, withNumber, withHll, numberOf, nestedOf, outerField, readState}
+
+-- Where a value was read, it has a property and no more than n bytes are left.
+abbrev Reads : {A : Type 0} → (A → Type 0) → ℕ → Read A → Type 0
+Reads good n (got a l) = good a × (length l ≤ n)
+Reads good n (refused k) = Unit
+
+abbrev Anything : {A : Type 0} → A → Type 0
+Anything a = Unit
+
+reads-then : {A B : Type 0} (good : A → Type 0) (fine : B → Type 0) (n k : ℕ) (r : Read A) (next : A → List ℕ → Read B)
+    → Reads good n r → ((a : A) (l : List ℕ) → good a → length l ≤ n → Reads fine k (next a l)) → Reads fine k (andThen r next)
+reads-then good fine n k (got a l) next h f = f a l (h .0) (h .1)
+reads-then good fine n k (refused m) next h f = tt
+
+-- A choice, each way.
+either : {A : Type 0} (good : A → Type 0) (n : ℕ) (b : Bool) (x y : Read A) → Reads good n x → Reads good n y → Reads good n (cond b x y)
+either good n true x y f g = f
+either good n false x y f g = g
+
+varint-reads : (k : ℕ) (l : List ℕ) → Reads Anything (length l) (varintOf k l)
+unfolding varintOf
+varint-reads zero l = tt
+varint-reads (suc k) [] = tt
+varint-reads (suc k) (b ∷ l) =
+    either Anything (length (b ∷ l)) (ltb b 128) (got b l) (payload (b % 128) (varintOf k l)) (tt, omega arith)
+    (more (varintOf k l) (varint-reads k l))
+  where
+    more : (r : Read ℕ) → Reads Anything (length l) r → Reads Anything (length (b ∷ l)) (payload (b % 128) r)
+    more (got v rest) h = (tt, (let g : length rest ≤ length (b ∷ l) = omega (arith, h .1) in g))
+    more (refused n) h = tt
+
+varint64-reads : (l : List ℕ) → Reads Anything (length l) (varint64 l)
+unfolding varint64
+varint64-reads l = low (varintOf 10 l) (varint-reads 10 l)
+  where
+    low : (r : Read ℕ) → Reads Anything (length l) r → Reads Anything (length l) (lowBits 64 r)
+    low (got v rest) h = (tt, h .1)
+    low (refused n) h = tt
+
+-- Bytes that were taken of a list are no more than it has.
+abbrev Within : ℕ → List ℕ → Type 0
+Within n d = length d ≤ n
+
+bytes-reads : (n k : ℕ) (l : List ℕ) → length l ≤ k → Reads (Within k) k (bytesOf n l)
+unfolding bytesOf
+bytes-reads n k l h =
+    either (Within k) k (leb n (length l)) (got (take n l) (drop n l)) (refused 3)
+    ((let g : length (take n l) ≤ k = omega (arith, length-take n l) in g), (let g : length (drop n l) ≤ k = omega (arith, length-drop n l) in g)) tt
+
+delimited-reads : (l : List ℕ) → Reads (Within (length l)) (length l) (delimitedOf l)
+unfolding delimitedOf
+delimited-reads l =
+    reads-then Anything (Within (length l)) (length l) (length l) (varint64 l) (λ n rest. bytesOf n rest) (varint64-reads l)
+    (λ (n : ℕ) (rest : List ℕ) (x : Unit) (h : length rest ≤ length l). bytes-reads n (length l) rest h)
+
+tag-reads : (l : List ℕ) → Reads Anything (length l) (tagOf l)
+unfolding tagOf
+tag-reads l =
+    reads-then Anything Anything (length l) (length l) (varint64 l) (λ t rest. cond (isTag t) (got t rest) (refused 5)) (varint64-reads l)
+    (λ (t : ℕ) (rest : List ℕ) (x : Unit) (h : length rest ≤ length l). either Anything (length l) (isTag t) (got t rest) (refused 5) (tt, h) tt)
+
+skip-reads : (t : ℕ) (l : List ℕ) → Reads Anything (length l) (skipOf t l)
+unfolding skipOf
+skip-reads t l =
+    let n = length l in
+    let none : Read (Unit {0}) = refused 6 in
+    let fixed : ℕ → Read (Unit {0}) = λ k. andThen (bytesOf k l) (λ v rest. got tt rest) in
+    let number : Read (Unit {0}) = andThen (varint64 l) (λ v rest. got tt rest) in
+    let bytes : Read (Unit {0}) = andThen (delimitedOf l) (λ v rest. got tt rest) in
+    let four = cond (eqb (t % 8) I32) (fixed 4) none in
+    let other = cond (eqb (t % 8) LEN) bytes four in
+    let eight = cond (eqb (t % 8) I64) (fixed 8) other in
+    either Anything n (eqb (t % 8) VARINT) number eight
+    (reads-then Anything Anything n n (varint64 l) (λ v rest. got tt rest) (varint64-reads l) (λ (v : ℕ) (rest : List ℕ) (x : Unit) (h : length rest ≤ n). (tt, h)))
+    (either Anything n (eqb (t % 8) I64) (fixed 8) other (past 8)
+    (either Anything n (eqb (t % 8) LEN) bytes four
+    (reads-then (Within n) Anything n n (delimitedOf l) (λ v rest. got tt rest) (delimited-reads l)
+    (λ (d rest : List ℕ) (x : length d ≤ n) (h : length rest ≤ n). (tt, h))) (either Anything n (eqb (t % 8) I32) (fixed 4) none (past 4) tt)))
+  where
+    past : (k : ℕ) → Reads Anything (length l) (andThen (bytesOf k l) (λ v rest. got (tt {0}) rest))
+    past k =
+        reads-then (Within (length l)) Anything (length l) (length l) (bytesOf k l) (λ v rest. got tt rest) (bytes-reads k (length l) l (omega arith))
+        (λ (d rest : List ℕ) (x : length d ≤ length l) (h : length rest ≤ length l). (tt, h))
+
+-- A property that each field keeps, of bytes that are no more than n, is one of the whole message.
+module _ {A : Type 0} (field : ℕ → List ℕ → A → Read A) (good : A → Type 0) (n : ℕ)
+    (keeps : (t : ℕ) (l : List ℕ) (a : A) → length l ≤ n → good a → Reads good n (field t l a)) where
+  fields-keep : (k : ℕ) (l : List ℕ) (a : A) → length l ≤ n → good a → Reads good n (fieldsOf field k l a)
+  unfolding fieldsOf
+  fields-keep zero l a h g = (g, h)
+  fields-keep (suc k) [] a h g = (g, h)
+  fields-keep (suc k) (b ∷ l) a h g =
+      reads-then good good n n (fieldOf field (b ∷ l) a) (λ next rest. fieldsOf field k rest next)
+      (reads-then Anything good (length (b ∷ l)) n (tagOf (b ∷ l)) (λ t rest. field t rest a) (tag-reads (b ∷ l))
+      (λ (t : ℕ) (rest : List ℕ) (x : Unit) (i : length rest ≤ length (b ∷ l)). keeps t rest a (let j : length rest ≤ n = omega arith in j) g))
+      (λ (next : A) (rest : List ℕ) (x : good next) (i : length rest ≤ n). fields-keep k rest next i x)
+
+  message-keeps : (l : List ℕ) (a : A) → length l ≤ n → good a → Reads good n (messageOf field l a)
+  unfolding messageOf
+  message-keeps l a h g = fields-keep (length l) l a h g
+
+-- What is to be known of a nested message that was read of no more than n bytes.
+record Bounded (n : ℕ) (h : HllState) : Type 0 where
+  list : length (bytesOrNone (h .sparseData)) ≤ n
+  sparse : h .sparsePrecision < 2 ^ 32
+
+with-number : (n t v : ℕ) (h : HllState) → Bounded n h → Bounded n (withHllNumber t v h)
+with-number n t v h b = go (eqb t (tag 2 VARINT)) (eqb t (tag 3 VARINT))
+  where
+    go : (x y : Bool)
+        → Bounded n
+        (cond x
+        (record { sparseSize = v % 2 ^ 32; precision = h .precision; sparsePrecision = h .sparsePrecision; «data» = h .«data»; sparseData = h .sparseData })
+        (cond y
+        (record { sparseSize = h .sparseSize; precision = v % 2 ^ 32; sparsePrecision = h .sparsePrecision; «data» = h .«data»; sparseData = h .sparseData })
+        (record { sparseSize = h .sparseSize; precision = h .precision; sparsePrecision = v % 2 ^ 32; «data» = h .«data»; sparseData = h .sparseData })))
+    go true y = record { list = b .list; sparse = b .sparse }
+    go false true = record { list = b .list; sparse = b .sparse }
+    go false false = record { list = b .list; sparse = mod-lt v (let g : 0 < 2 ^ 32 = omega arith in g) }
+
+with-bytes : (n t : ℕ) (d : List ℕ) (h : HllState) → length d ≤ n → Bounded n h → Bounded n (withHllBytes t d h)
+with-bytes n t d h e b = go (eqb t (tag 5 LEN))
+  where
+    go : (x : Bool)
+        → Bounded n
+        (cond x
+        (record { sparseSize = h .sparseSize; precision = h .precision; sparsePrecision = h .sparsePrecision; «data» = some d; sparseData = h .sparseData })
+        (record { sparseSize = h .sparseSize; precision = h .precision; sparsePrecision = h .sparsePrecision; «data» = h .«data»; sparseData = some d }))
+    go true = record { list = b .list; sparse = b .sparse }
+    go false = record { list = e; sparse = b .sparse }
+
+other-keeps : {A : Type 0} (good : A → Type 0) (n t : ℕ) (l : List ℕ) (a : A) → length l ≤ n → good a → Reads good n (otherOf t l a)
+other-keeps good n t l a h g =
+    reads-then Anything good (length l) n (skipOf t l) (λ u rest. got a rest) (skip-reads t l)
+    (λ (u : Unit {0}) (rest : List ℕ) (x : Unit) (i : length rest ≤ length l). (g, (let j : length rest ≤ n = omega arith in j)))
+
+hll-keeps : (n t : ℕ) (l : List ℕ) (h : HllState) → length l ≤ n → Bounded n h → Reads (Bounded n) n (hllField t l h)
+unfolding hllField
+hll-keeps n t l h e b =
+    either (Bounded n) n (isHllNumber t) (hllNumberOf t l h) (cond (isHllBytes t) (hllBytesOf t l h) (otherOf t l h))
+    (reads-then Anything (Bounded n) (length l) n (varint64 l) (λ v rest. got (withHllNumber t v h) rest) (varint64-reads l)
+    (λ (v : ℕ) (rest : List ℕ) (x : Unit) (i : length rest ≤ length l). (with-number n t v h b, (let j : length rest ≤ n = omega arith in j))))
+    (either (Bounded n) n (isHllBytes t) (hllBytesOf t l h) (otherOf t l h)
+    (reads-then (Within (length l)) (Bounded n) (length l) n (delimitedOf l) (λ d rest. got (withHllBytes t d h) rest) (delimited-reads l)
+    (λ (d rest : List ℕ) (x : length d ≤ length l) (i : length rest ≤ length l).
+    (with-bytes n t d h (let j : length d ≤ n = omega arith in j) b, (let j : length rest ≤ n = omega arith in j)))) (other-keeps (Bounded n) n t l h e b))
+
+-- The same of a state.
+record StateBounded (n : ℕ) (st : State) : Type 0 where
+  nested : Bounded n (st .hll)
+
+with-outer : (n t v : ℕ) (st : State) → StateBounded n st → StateBounded n (withNumber t v st)
+with-outer n t v st b = go (eqb t (tag 1 VARINT)) (eqb t (tag 2 VARINT)) (eqb t (tag 3 VARINT))
+  where
+    go : (x y z : Bool)
+        → StateBounded n
+        (cond x
+        (record { aggregatorType = v % 2 ^ 32; numValues = st .numValues; encodingVersion = st .encodingVersion; valueType = st .valueType; hll = st .hll })
+        (cond y
+        (record { aggregatorType = st .aggregatorType; numValues = v; encodingVersion = st .encodingVersion; valueType = st .valueType; hll = st .hll })
+        (cond z
+        (record { aggregatorType = st .aggregatorType; numValues = st .numValues; encodingVersion = v % 2 ^ 32; valueType = st .valueType; hll = st .hll })
+        (record { aggregatorType = st .aggregatorType; numValues = st .numValues; encodingVersion = st .encodingVersion; valueType = v % 2 ^ 32; hll = st .hll }))))
+    go true y z = record { nested = b .nested }
+    go false true z = record { nested = b .nested }
+    go false false true = record { nested = b .nested }
+    go false false false = record { nested = b .nested }
+
+outer-keeps : (n t : ℕ) (l : List ℕ) (st : State) → length l ≤ n → StateBounded n st → Reads (StateBounded n) n (outerField t l st)
+unfolding outerField readHll
+outer-keeps n t l st e b =
+    either (StateBounded n) n (isNumber t) (numberOf t l st) (cond (eqb t (tag 112 LEN)) (nestedOf l st) (otherOf t l st))
+    (reads-then Anything (StateBounded n) (length l) n (varint64 l) (λ v rest. got (withNumber t v st) rest) (varint64-reads l)
+    (λ (v : ℕ) (rest : List ℕ) (x : Unit) (i : length rest ≤ length l). (with-outer n t v st b, (let j : length rest ≤ n = omega arith in j))))
+    (either (StateBounded n) n (eqb t (tag 112 LEN)) (nestedOf l st) (otherOf t l st)
+    (reads-then (Within (length l)) (StateBounded n) (length l) n (delimitedOf l)
+    (λ m rest. andThen (readHll m (st .hll)) (λ h nothing. got (withHll h st) rest)) (delimited-reads l)
+    (λ (m rest : List ℕ) (x : length m ≤ length l) (i : length rest ≤ length l).
+    reads-then (Bounded n) (StateBounded n) n n (readHll m (st .hll)) (λ h nothing. got (withHll h st) rest)
+    (message-keeps hllField (Bounded n) n (hll-keeps n) m (st .hll) (let j : length m ≤ n = omega arith in j) (b .nested))
+    (λ (h : HllState) (nothing : List ℕ) (y : Bounded n h) (k : length nothing ≤ n). (record { nested = y }, (let j : length rest ≤ n = omega arith in j)))))
+    (other-keeps (StateBounded n) n t l st e b))
+
+read-bounded : (s : List ℕ) → Reads (StateBounded (length s)) (length s) (readState s)
+unfolding readState
+read-bounded s =
+    message-keeps outerField (StateBounded (length s)) (length s) (outer-keeps (length s)) s emptyState (omega arith)
+    (record { nested = record { list = omega arith; sparse = omega arith } })
+
+-- A state's list has no more bytes than the state, and its s is one of 32 bits.
+module _ (s : List ℕ) (st : State) (l : List ℕ) (e : readState s ≡ got st l) where
+  bounded : StateBounded (length s) st
+  bounded = subst (Reads (StateBounded (length s)) (length s)) e (read-bounded s) .0
+
+  pub sparse-data-within : length (bytesOrNone (st .hll .sparseData)) ≤ length s
+  sparse-data-within = bounded .nested .list
+
+  pub sparse-precision-small : st .hll .sparsePrecision < 2 ^ 32
+  sparse-precision-small = bounded .nested .sparse
