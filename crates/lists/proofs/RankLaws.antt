@@ -833,3 +833,13 @@ row-raised p s l inside =
     tab-at ranks 0 (2 ^ p) j (subst (λ (n : ℕ). j < n) (tab-length ranks 0 (2 ^ p)) h)
     ∙ ap ranks (let z : 0 + j ≡ j = omega arith in z)
     ∙ sym (raised-zeros p s j l inside))
+
+-- It depends on the largest ranks alone.
+tab-same : (f g : ℕ → ℕ) → ((j : ℕ) → f j ≡ g j) → (i n : ℕ) → tabulate f i n ≡ tabulate g i n
+unfolding tabulate
+tab-same f g e i zero = refl
+tab-same f g e i (suc n) = ap₂ (λ (x : ℕ) (l : List ℕ). x ∷ l) (e i) (tab-same f g e (i + 1) n)
+
+pub row-same : (p s : ℕ) (a b : List ℕ) → ((j : ℕ) → rankAt p s j a ≡ rankAt p s j b)
+    → tabulate (λ j. rankAt p s j a) 0 (2 ^ p) ≡ tabulate (λ j. rankAt p s j b) 0 (2 ^ p)
+row-same p s a b e = tab-same (λ j. rankAt p s j a) (λ j. rankAt p s j b) e 0 (2 ^ p)
