@@ -63,7 +63,7 @@ module _ (p s : ℕ) (pair : Pair p s) where
       ∙ sym (ap₂ larger (list-row a f) (list-row b g))
 
 -- Registers of the precision itself are not changed by lowering.
-lowered-here : (p q : ℕ) (regs : List ℕ) → q ≡ p → length regs ≡ 2 ^ p → lowered (p - q) q regs ≡ regs
+pub lowered-here : (p q : ℕ) (regs : List ℕ) → q ≡ p → length regs ≡ 2 ^ p → lowered (p - q) q regs ≡ regs
 lowered-here p q regs e f =
     ap₂ (λ (d k : ℕ). lowered d k regs) (let z : p - q ≡ 0 = omega arith in z) e ∙ registers-same p regs f
 

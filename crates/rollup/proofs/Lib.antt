@@ -7,3 +7,4 @@ pub mod KeepsLaws
 pub mod ViewLaws
 pub mod AgreementLaws
 pub mod FoldLaws
+pub mod Agreement
