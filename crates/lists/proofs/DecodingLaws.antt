@@ -11,7 +11,7 @@ use lib.Arith.{digits-lt}
 use lib.ListN.{length, set, drop, take, getD, drop-of-length-le, length-drop, length-append}
 use lib.Seq.{length-take-le, take-suc-set}
 use lib.Pow.{pow-pos}
-use lib.Dec.{ltb, leb}
+use lib.Dec.{ltb, leb, eqb}
 use borrow.Author.Tests.{lt-ltb, le-ltb, le-leb, ltb-true, ltb-false, leb-true}
 use Rattle.wire.specs.Reading.{Read, got, refused, andThen}
 use Rattle.wire.specs.Varints.{varintOf, varintBytes, payload}
@@ -653,3 +653,51 @@ module _ {p s : ℕ} (pair : Pair p s) where
   decode-encode vs a e =
       ap (λ (r : Read (List ℕ)). andThen r (asked p s)) (sums-back vs (length (encodeFrom 0 vs)) 0 a e (omega arith))
       ∙ ap (λ (t : Bool). cond t (got vs []) (refused 20)) e
+
+-- ---- a refusal has a number above 0
+
+abbrev Numbered : {A : Type 0} → Read A → Type 0
+Numbered (got x l) = Unit
+Numbered (refused n) = 0 < n
+
+numbered-then : {A B : Type 0} (r : Read A) (next : A → List ℕ → Read B) → Numbered r → ((x : A) (l : List ℕ) → Numbered (next x l)) → Numbered (andThen r next)
+numbered-then (got x l) next h f = f x l
+numbered-then (refused n) next h f = h
+
+numbered-if : {A : Type 0} (b : Bool) (x y : Read A) → Numbered x → Numbered y → Numbered (cond b x y)
+numbered-if true x y f g = f
+numbered-if false x y f g = g
+
+gap-numbered : (l : List ℕ) → Numbered (gapOf l)
+unfolding gapOf
+gap-numbered l = go (varintOf 5 l)
+  where
+    cut : (b : Bool) → 0 < cond b 18 19
+    cut true = omega arith
+    cut false = omega arith
+    go : (r : Read ℕ) → Numbered (gapAnswer r)
+    go (got v rest) = numbered-if (ltb v (2 ^ 32)) (got v rest) (refused 19) tt (omega arith)
+    go (refused n) = cut (eqb n 3)
+
+sums-numbered : (p s n : ℕ) (l : List ℕ) (last : ℕ) → Numbered (sumsOf p s n l last)
+unfolding sumsOf
+sums-numbered p s zero l last = tt
+sums-numbered p s (suc n) [] last = tt
+sums-numbered p s (suc n) (b ∷ l) last =
+    numbered-then (gapOf (b ∷ l))
+    (λ gap rest. cond (refusedHere p s last ((last + gap) % 2 ^ 32)) (refused 20) (before ((last + gap) % 2 ^ 32) (sumsOf p s n rest ((last + gap) % 2 ^ 32))))
+    (gap-numbered (b ∷ l))
+    (λ (gap : ℕ) (rest : List ℕ).
+    let v = (last + gap) % 2 ^ 32 in
+    numbered-if (refusedHere p s last v) (refused 20) (before v (sumsOf p s n rest v)) (omega arith) (more v (sumsOf p s n rest v) (sums-numbered p s n rest v)))
+  where
+    more : (v : ℕ) (r : Read (List ℕ)) → Numbered r → Numbered (before v r)
+    more v (got vs l) h = tt
+    more v (refused k) h = h
+
+pub decode-number : (p s : ℕ) (l : List ℕ) (n : ℕ) → decodeOf p s l ≡ refused n → 0 < n
+unfolding decodeOf
+decode-number p s l n e =
+    subst Numbered e
+    (numbered-then (sumsOf p s (length l) l 0) (asked p s) (sums-numbered p s (length l) l 0)
+    (λ (vs rest : List ℕ). numbered-if (allValid p s vs) (got vs rest) (refused 20) tt (omega arith)))

@@ -819,3 +819,27 @@ largest-raised-lower p s d regs l m inside h f =
     (peak-least (lowerIndex p s d) (lowerRank p s d) j l (m + d)
     (λ (v : ℕ) (n : List·Memᴰ v l) (e : lowerIndex p s d v ≡ j).
     let u = lowered-le d (register p s v) (rank p s v) in let w = f v n in omega arith))))
+
+-- ---- the registers of a list as a row
+
+-- The largest ranks of all 2^p indices are what the list's values make of zeros.
+pub row-raised : (p s : ℕ) (l : List ℕ) → ((v : ℕ) → List·Memᴰ v l → register p s v < 2 ^ p)
+    → tabulate (λ j. rankAt p s j l) 0 (2 ^ p) ≡ raisedBy p s (zeros p) l
+row-raised p s l inside =
+    let ranks : ℕ → ℕ = λ j. rankAt p s j l in
+    ext-getD 0 (tabulate ranks 0 (2 ^ p)) (raisedBy p s (zeros p) l)
+    (tab-length ranks 0 (2 ^ p) ∙ sym (raised-length p s (zeros p) l ∙ length-replicate (2 ^ p) 0))
+    (λ (j : ℕ) (h : j < length (tabulate ranks 0 (2 ^ p))).
+    tab-at ranks 0 (2 ^ p) j (subst (λ (n : ℕ). j < n) (tab-length ranks 0 (2 ^ p)) h)
+    ∙ ap ranks (let z : 0 + j ≡ j = omega arith in z)
+    ∙ sym (raised-zeros p s j l inside))
+
+-- It depends on the largest ranks alone.
+tab-same : (f g : ℕ → ℕ) → ((j : ℕ) → f j ≡ g j) → (i n : ℕ) → tabulate f i n ≡ tabulate g i n
+unfolding tabulate
+tab-same f g e i zero = refl
+tab-same f g e i (suc n) = ap₂ (λ (x : ℕ) (l : List ℕ). x ∷ l) (e i) (tab-same f g e (i + 1) n)
+
+pub row-same : (p s : ℕ) (a b : List ℕ) → ((j : ℕ) → rankAt p s j a ≡ rankAt p s j b)
+    → tabulate (λ j. rankAt p s j a) 0 (2 ^ p) ≡ tabulate (λ j. rankAt p s j b) 0 (2 ^ p)
+row-same p s a b e = tab-same (λ j. rankAt p s j a) (λ j. rankAt p s j b) e 0 (2 ^ p)

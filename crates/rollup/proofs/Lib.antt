@@ -4,3 +4,7 @@ pub mod FitLaws
 pub mod JudgeLaws
 pub mod SparseLaws
 pub mod KeepsLaws
+pub mod ViewLaws
+pub mod AgreementLaws
+pub mod FoldLaws
+pub mod Agreement

@@ -103,13 +103,13 @@ rollupRegisters Dense a m = registersOf (a .precision) (m .registers)
 -- ---- the claim
 
 -- "Every call's answer, writing's too, is the one that the questions above give for the head, lent memory, state bytes and output of that call."
-pub Answered : {room : ℕ} {first : Mem} {calls : List Call} {a : Accumulator} {m : Mem} → Run room first calls a m → Type 0
+unfoldable pub Answered : {room : ℕ} {first : Mem} {calls : List Call} {a : Accumulator} {m : Mem} → Run room first calls a m → Type 0
 Answered begun = Unit
 Answered {room} (adding {a = a} {m = m} bytes r n run post) = Answered run × (r .answer ≡ addOutcome a m room bytes .answer)
 Answered {room} (writing {a = a} {m = m} out r n after run post) = Answered run × (r .answer ≡ writeOutcome a m room (length out) .answer)
 
 -- The premise: no value listed in an accepted state has rank 0.
-pub NoZeroRank : List State → Type 0
+unfoldable pub NoZeroRank : List State → Type 0
 NoZeroRank sts =
     (st : State) → List·Memᴰ st sts → (v : ℕ) → List·Memᴰ v (valuesIn st) → 0 < rank (st .hll .precision) (st .hll .sparsePrecision) v
 
@@ -121,7 +121,7 @@ pub record Agrees (room : ℕ) (first : Mem) (calls : List Call) (a : Accumulato
   pub mask : a .allowed ≡ commonBits (states calls)
   pub registers : rollupRegisters (a .form) a m ≡ largestRegisters (states calls)
 
-pub DemandThree : Type 0
+unfoldable pub DemandThree : Type 0
 DemandThree =
     (room : ℕ) (first : Mem) (calls : List Call) (a : Accumulator) (m : Mem) (run : Run room first calls a m) → NoZeroRank (states calls)
     → Agrees room first calls a m run
@@ -141,7 +141,7 @@ pub record Alike (a : Accumulator) (m : Mem) (b : Accumulator) (n : Mem) : Type 
   pub registers : rollupRegisters (a .form) a m ≡ rollupRegisters (b .form) b n
 
 -- Whatever the order, the repeats, the refusals and the writes between, and whatever memory was lent.
-pub OrderFree : Type 0
+unfoldable pub OrderFree : Type 0
 OrderFree =
     (room room′ : ℕ) (first first′ : Mem) (c d : List Call) (a b : Accumulator) (m n : Mem) → Run room first c a m → Run room′ first′ d b n
     → NoZeroRank (states c) → SameStates c d

@@ -1,4 +1,5 @@
 -- What was read of a list of bytes is no longer than it: the sparse data of a state has no more bytes than the state, and a 32-bit number fits 32 bits.
+-- And what was refused has a number above 0.
 use Prim.Native.Nat.{ℕ, zero, suc, _%_, _^_, _<_, _≤_}
 use mathlib.Core.Path.{_≡_, refl, subst}
 use mathlib.Core.List.{List, [], _∷_}
@@ -13,10 +14,10 @@ use Rattle.wire.specs.Varints.{payload, varintOf, lowBits, varint64}
 use Rattle.wire.specs.Fields.{tag, VARINT, I64, LEN, I32, isTag, tagOf, bytesOf, delimitedOf, skipOf, fieldOf, fieldsOf, messageOf}
 use Rattle.wire.specs.State.{HllState, State, emptyHll, emptyState, bytesOrNone, isHllNumber, withHllNumber, isHllBytes, withHllBytes, hllNumberOf, hllBytesOf, otherOf, hllField, readHll, isNumber, withNumber, withHll, numberOf, nestedOf, outerField, readState}
 
--- Where a value was read, it has a property and no more than n bytes are left.
+-- Where a value was read, it has a property and no more than n bytes are left; a refusal has a number above 0.
 abbrev Reads : {A : Type 0} → (A → Type 0) → ℕ → Read A → Type 0
 Reads good n (got a l) = good a × (length l ≤ n)
-Reads good n (refused k) = Unit
+Reads good n (refused k) = 0 < k
 
 abbrev Anything : {A : Type 0} → A → Type 0
 Anything a = Unit
@@ -24,7 +25,7 @@ Anything a = Unit
 reads-then : {A B : Type 0} (good : A → Type 0) (fine : B → Type 0) (n k : ℕ) (r : Read A) (next : A → List ℕ → Read B)
     → Reads good n r → ((a : A) (l : List ℕ) → good a → length l ≤ n → Reads fine k (next a l)) → Reads fine k (andThen r next)
 reads-then good fine n k (got a l) next h f = f a l (h .0) (h .1)
-reads-then good fine n k (refused m) next h f = tt
+reads-then good fine n k (refused m) next h f = h
 
 -- A choice, each way.
 either : {A : Type 0} (good : A → Type 0) (n : ℕ) (b : Bool) (x y : Read A) → Reads good n x → Reads good n y → Reads good n (cond b x y)
@@ -33,15 +34,15 @@ either good n false x y f g = g
 
 varint-reads : (k : ℕ) (l : List ℕ) → Reads Anything (length l) (varintOf k l)
 unfolding varintOf
-varint-reads zero l = tt
-varint-reads (suc k) [] = tt
+varint-reads zero l = omega arith
+varint-reads (suc k) [] = omega arith
 varint-reads (suc k) (b ∷ l) =
     either Anything (length (b ∷ l)) (ltb b 128) (got b l) (payload (b % 128) (varintOf k l)) (tt, omega arith)
     (more (varintOf k l) (varint-reads k l))
   where
     more : (r : Read ℕ) → Reads Anything (length l) r → Reads Anything (length (b ∷ l)) (payload (b % 128) r)
     more (got v rest) h = (tt, (let g : length rest ≤ length (b ∷ l) = omega (arith, h .1) in g))
-    more (refused n) h = tt
+    more (refused n) h = h
 
 varint64-reads : (l : List ℕ) → Reads Anything (length l) (varint64 l)
 unfolding varint64
@@ -49,7 +50,7 @@ varint64-reads l = low (varintOf 10 l) (varint-reads 10 l)
   where
     low : (r : Read ℕ) → Reads Anything (length l) r → Reads Anything (length l) (lowBits 64 r)
     low (got v rest) h = (tt, h .1)
-    low (refused n) h = tt
+    low (refused n) h = h
 
 -- Bytes that were taken of a list are no more than it has.
 abbrev Within : ℕ → List ℕ → Type 0
@@ -59,7 +60,7 @@ bytes-reads : (n k : ℕ) (l : List ℕ) → length l ≤ k → Reads (Within k)
 unfolding bytesOf
 bytes-reads n k l h =
     either (Within k) k (leb n (length l)) (got (take n l) (drop n l)) (refused 3)
-    ((let g : length (take n l) ≤ k = omega (arith, length-take n l) in g), (let g : length (drop n l) ≤ k = omega (arith, length-drop n l) in g)) tt
+    ((let g : length (take n l) ≤ k = omega (arith, length-take n l) in g), (let g : length (drop n l) ≤ k = omega (arith, length-drop n l) in g)) (omega arith)
 
 delimited-reads : (l : List ℕ) → Reads (Within (length l)) (length l) (delimitedOf l)
 unfolding delimitedOf
@@ -71,7 +72,7 @@ tag-reads : (l : List ℕ) → Reads Anything (length l) (tagOf l)
 unfolding tagOf
 tag-reads l =
     reads-then Anything Anything (length l) (length l) (varint64 l) (λ t rest. cond (isTag t) (got t rest) (refused 5)) (varint64-reads l)
-    (λ (t : ℕ) (rest : List ℕ) (x : Unit) (h : length rest ≤ length l). either Anything (length l) (isTag t) (got t rest) (refused 5) (tt, h) tt)
+    (λ (t : ℕ) (rest : List ℕ) (x : Unit) (h : length rest ≤ length l). either Anything (length l) (isTag t) (got t rest) (refused 5) (tt, h) (omega arith))
 
 skip-reads : (t : ℕ) (l : List ℕ) → Reads Anything (length l) (skipOf t l)
 unfolding skipOf
@@ -89,7 +90,7 @@ skip-reads t l =
     (either Anything n (eqb (t % 8) I64) (fixed 8) other (past 8)
     (either Anything n (eqb (t % 8) LEN) bytes four
     (reads-then (Within n) Anything n n (delimitedOf l) (λ v rest. got tt rest) (delimited-reads l)
-    (λ (d rest : List ℕ) (x : length d ≤ n) (h : length rest ≤ n). (tt, h))) (either Anything n (eqb (t % 8) I32) (fixed 4) none (past 4) tt)))
+    (λ (d rest : List ℕ) (x : length d ≤ n) (h : length rest ≤ n). (tt, h))) (either Anything n (eqb (t % 8) I32) (fixed 4) none (past 4) (omega arith))))
   where
     past : (k : ℕ) → Reads Anything (length l) (andThen (bytesOf k l) (λ v rest. got (tt {0}) rest))
     past k =
@@ -211,3 +212,7 @@ module _ (s : List ℕ) (st : State) (l : List ℕ) (e : readState s ≡ got st 
 
   pub sparse-precision-small : st .hll .sparsePrecision < 2 ^ 32
   sparse-precision-small = bounded .nested .sparse
+
+-- A state that is not read is refused with a number above 0.
+pub read-number : (s : List ℕ) (n : ℕ) → readState s ≡ refused n → 0 < n
+read-number s n e = subst (Reads (StateBounded (length s)) (length s)) e (read-bounded s)

@@ -1,0 +1,256 @@
+-- Demand 3: after any list of calls the roll-up agrees with what the accepted states come to; and so two lists of calls that accepted the same states
+-- agree with each other, whatever the order, the repeats, the refusals and the writes between were.
+use Prim.Native.Nat.{ℕ, _+_, _-_, _^_, _<_, _≤_, min}
+use mathlib.Core.Path.{_≡_, refl, sym, ap, ap₂, _∙_, subst}
+use mathlib.Core.Bool.{Bool, true, false, cond}
+use mathlib.Core.Logic.{⊎-elim}
+use mathlib.Core.List.{List, [], _∷_, map, List·Memᴰ, List·Memᴰ·head, List·Memᴰ·tail, List·Memᴰ·cases-cons, List·Memᴰ·not-nil, Memᴰ·map, Memᴰ·of-map}
+use native.Mathlib.Nat.{min-le-left, min-le-right, le-refl, le-of-eq}
+use native.Mathlib.Omega.{arith}
+use lib.Bits.{bitAnd}
+use lib.Dec.{eqb}
+use lib.ListN.{length}
+use borrow.Author.Tests.{eq-eqb, ne-eqb}
+use Rattle.wire.specs.State.{State}
+use Rattle.lists.specs.Values.{rank}
+use Rattle.lists.specs.Registers.{larger, lowered}
+use Rattle.lists.proofs.RankLaws.{larger-length, lowered-length, registers-larger, registers-twice}
+use Rattle.rollup.specs.declared.accumulator.Accumulator.{Accumulator}
+use Rattle.rollup.specs.declared.adding.Added.{Added}
+use Rattle.rollup.specs.Accumulator.{Mem, fresh, fits}
+use Rattle.rollup.specs.Header.{maskOf}
+use Rattle.rollup.specs.Adding.{signedMin, unchanged, isStarted, Shows, AddPost}
+use Rattle.rollup.specs.Writing.{WritePost}
+use Rattle.rollup.specs.Calls.{Call, added, wrote, Run, begun, adding, writing, accepted, stateIn, valuesIn, states, registersIn, over, smallestPrecision, smallestSparsePrecision, commonBits, largestRegisters, rollupRegisters, Answered, NoZeroRank, Agrees, DemandThree, SameStates, Alike, OrderFree}
+use Rattle.rollup.proofs.ViewLaws.{IsRefused, IsAccepted, add-view, run-fits, sparse-small}
+use Rattle.rollup.proofs.AgreementLaws.{lowered-here, Took, same-registers, in-length, first-took, more-took}
+use Rattle.rollup.proofs.FoldLaws.{over-one, over-more, over-good, over-through, Joins, over-set, Any, min-joins, and-joins, Small, signed-joins, larger-joins}
+
+-- ---- one more state
+
+smallest-le : (st : State) (sts : List State) (s : State) → List·Memᴰ s (st ∷ sts) → smallestPrecision (st ∷ sts) ≤ s .hll .precision
+smallest-le st [] s i =
+    le-of-eq
+    (over-one 0 min (λ (x : State). x .hll .precision) st
+    ∙ ⊎-elim (λ (e : s ≡ st). ap (λ (x : State). x .hll .precision) (sym e)) (λ (j : List·Memᴰ s []). absurd (List·Memᴰ·not-nil j)) (List·Memᴰ·cases-cons i))
+smallest-le st (last ∷ sts) s i =
+    let e = over-more 0 min (λ (x : State). x .hll .precision) st last sts in
+    ⊎-elim
+    (λ (f : s ≡ st).
+    let g : st .hll .precision ≡ s .hll .precision = ap (λ (x : State). x .hll .precision) (sym f) in
+    let h = min-le-right (smallestPrecision (last ∷ sts)) (st .hll .precision) in
+    omega arith)
+    (λ (j : List·Memᴰ s (last ∷ sts)).
+    let g = smallest-le last sts s j in
+    let h = min-le-left (smallestPrecision (last ∷ sts)) (st .hll .precision) in
+    omega arith) (List·Memᴰ·cases-cons i)
+
+-- The registers of a state at precision q.
+abbrev at : ℕ → State → List ℕ
+at q st = lowered (st .hll .precision - q) q (registersIn st)
+
+-- Lowering those of all states from q goes on to q′: they are the largest there.
+lower-all : (q q′ : ℕ) → q′ ≤ q → (st : State) (sts : List State) → ((s : State) → List·Memᴰ s (st ∷ sts) → q ≤ s .hll .precision)
+    → lowered (q - q′) q′ (over [] larger (at q) (st ∷ sts)) ≡ over [] larger (at q′) (st ∷ sts)
+lower-all q q′ h st sts low =
+    over-through (λ (l : List ℕ). length l ≡ 2 ^ q) [] larger (at q) [] larger (at q′) (lowered (q - q′) q′) (larger-joins q .closed)
+    (λ (x y : List ℕ) (f : length x ≡ 2 ^ q) (g : length y ≡ 2 ^ q). registers-larger (q - q′) q′ x y (f ∙ sym g)) st sts
+    (λ (s : State) (i : List·Memᴰ s (st ∷ sts)). lowered-length (s .hll .precision - q) q (registersIn s))
+    (λ (s : State) (i : List·Memᴰ s (st ∷ sts)).
+    let p = s .hll .precision in
+    let l = low s i in
+    ap (λ (k : ℕ). lowered (q - q′) q′ (lowered (p - q) k (registersIn s))) (let e : q ≡ q′ + (q - q′) = omega arith in e)
+    ∙ registers-twice (p - q) (q - q′) q′ (registersIn s)
+    ∙ ap (λ (d : ℕ). lowered d q′ (registersIn s)) (let e : p - q + (q - q′) ≡ p - q′ = omega arith in e))
+
+-- ---- what holds all along
+
+abbrev Stands : List State → Accumulator → Mem → Type 0
+Stands [] a m = a ≡ fresh
+Stands (st ∷ sts) a m =
+    Took (smallestPrecision (st ∷ sts)) (smallestSparsePrecision (st ∷ sts)) (commonBits (st ∷ sts)) (largestRegisters (st ∷ sts)) a m
+
+-- A refusal, and a write.
+stays : (sts : List State) (a : Accumulator) (m : Mem) (r : Accumulator) (n : Mem) → Shows (unchanged a m) r n → Stands sts a m → Stands sts r n
+stays [] a m r n sh e = sh .head ∙ e
+stays (st ∷ sts) a m r n sh t =
+    record {
+      started = ap (λ (h : Accumulator). isStarted (h .form)) (sh .head) ∙ t .started;
+      precision = ap (λ (h : Accumulator). h .precision) (sh .head) ∙ t .precision;
+      sparse-precision = ap (λ (h : Accumulator). h .«sparse_precision») (sh .head) ∙ t .sparse-precision;
+      mask = ap (λ (h : Accumulator). h .allowed) (sh .head) ∙ t .mask;
+      registers = same-registers a m r n sh ∙ t .registers;
+    }
+
+-- An accepted state.
+module _ (room : ℕ) (bytes : List ℕ) (a : Accumulator) (m : Mem) (r : Added) (n : Mem) (x : IsAccepted a m room bytes r n) where
+  abbrev st : State
+  st = stateIn bytes
+
+  abbrev p : ℕ
+  p = st .hll .precision
+
+  grows : (sts : List State) → ((v : ℕ) → List·Memᴰ v (valuesIn st) → 0 < rank p (st .hll .sparsePrecision) v) → Stands sts a m → Stands (st ∷ sts) (r .head) n
+  unfolding largestRegisters
+  grows [] pos e =
+      let t = first-took a m room st (x .ready) (r .head) n (ap (λ (h : Accumulator). h .form) e) (x .shows) in
+      let one = over-one 0 min (λ (s : State). s .hll .precision) st in
+      record {
+        started = t .started;
+        precision = t .precision ∙ sym one;
+        sparse-precision = t .sparse-precision ∙ sym (over-one 0 signedMin (λ (s : State). s .hll .sparsePrecision) st);
+        mask = t .mask ∙ sym (over-one 0 bitAnd (λ (s : State). maskOf (s .valueType)) st);
+        registers =
+            t .registers
+            ∙ sym
+            (over-one [] larger (at (smallestPrecision (st ∷ []))) st
+            ∙ lowered-here p (smallestPrecision (st ∷ [])) (registersIn st) one (in-length a m room st (x .ready)));
+      }
+  grows (last ∷ sts) pos s =
+      let t = more-took a m room st (x .ready) (r .head) n (s .started) pos (x .shows) in
+      let q = smallestPrecision (last ∷ sts) in
+      let q′ = smallestPrecision (st ∷ last ∷ sts) in
+      let next : q′ ≡ min q p = over-more 0 min (λ (s : State). s .hll .precision) st last sts in
+      let down : q′ ≤ q = (let h = min-le-left q p in omega arith) in
+      let same : min (a .precision) p ≡ q′ = ap (λ (k : ℕ). min k p) (s .precision) ∙ sym next in
+      record {
+        started = t .started;
+        precision = t .precision ∙ same;
+        sparse-precision =
+            t .sparse-precision
+            ∙ ap (λ (k : ℕ). signedMin k (st .hll .sparsePrecision)) (s .sparse-precision)
+            ∙ sym (over-more 0 signedMin (λ (s : State). s .hll .sparsePrecision) st last sts);
+        mask =
+            t .mask
+            ∙ ap (λ (k : ℕ). bitAnd k (maskOf (st .valueType))) (s .mask)
+            ∙ sym (over-more 0 bitAnd (λ (s : State). maskOf (s .valueType)) st last sts);
+        registers =
+            t .registers
+            ∙ ap (λ (k : ℕ). larger (lowered (a .precision - k) k (rollupRegisters (a .form) a m)) (at k st)) same
+            ∙ ap₂ (λ (k : ℕ) (l : List ℕ). larger (lowered (k - q′) q′ l) (at q′ st)) (s .precision) (s .registers)
+            ∙ ap (λ (l : List ℕ). larger l (at q′ st)) (lower-all q q′ down last sts (smallest-le last sts))
+            ∙ sym (over-more [] larger (at q′) st last sts);
+      }
+
+-- ---- over the run
+
+-- Which states a call of `add` makes of those before.
+module _ (bytes : List ℕ) (n : ℕ) (calls : List Call) where
+  accepted-yes : n ≡ 0 → accepted (added bytes n ∷ calls) ≡ bytes ∷ accepted calls
+  unfolding accepted
+  accepted-yes e = ap (λ (b : Bool). cond b (bytes ∷ accepted calls) (accepted calls)) (eq-eqb n 0 e)
+
+  accepted-no : (n ≡ 0 → ⊥) → accepted (added bytes n ∷ calls) ≡ accepted calls
+  unfolding accepted
+  accepted-no e = ap (λ (b : Bool). cond b (bytes ∷ accepted calls) (accepted calls)) (ne-eqb n 0 e)
+
+accepted-none : accepted [] ≡ []
+unfolding accepted
+accepted-none = refl
+
+accepted-wrote : (out : List ℕ) (n : ℕ) (calls : List Call) → accepted (wrote out n ∷ calls) ≡ accepted calls
+unfolding accepted
+accepted-wrote out n calls = refl
+
+abbrev Positive : List (List ℕ) → Type 0
+Positive bs = NoZeroRank (map stateIn bs)
+
+stands : {room : ℕ} {first : Mem} {calls : List Call} {a : Accumulator} {m : Mem} → Run room first calls a m → NoZeroRank (states calls) → Stands (states calls) a m
+unfolding NoZeroRank
+stands {first = m} begun pos = subst (λ (bs : List (List ℕ)). Stands (map stateIn bs) fresh m) (sym accepted-none) refl
+stands {room} (adding {calls = calls} {a = a} {m = m} bytes r n run post) pos =
+    ⊎-elim
+    (λ (x : IsRefused a m r n).
+    let e = accepted-no bytes (r .answer) calls (x .number) in
+    subst (λ (bs : List (List ℕ)). Stands (map stateIn bs) (r .head) n) (sym e)
+    (stays (states calls) a m (r .head) n (x .same) (stands run (subst Positive e pos))))
+    (λ (x : IsAccepted a m room bytes r n).
+    let e = accepted-yes bytes (r .answer) calls (x .none) in
+    let pos′ : Positive (bytes ∷ accepted calls) = subst Positive e pos in
+    subst (λ (bs : List (List ℕ)). Stands (map stateIn bs) (r .head) n) (sym e)
+    (grows room bytes a m r n x (states calls) (pos′ (stateIn bytes) (List·Memᴰ·head refl))
+    (stands run (λ (s : State) (i : List·Memᴰ s (states calls)). pos′ s (List·Memᴰ·tail i))))) (add-view a m room bytes r n (run-fits run) post)
+stands {room} (writing {calls = calls} {a = a} {m = m} out r n after run post) pos =
+    let e = accepted-wrote out (r .answer) calls in
+    subst (λ (bs : List (List ℕ)). Stands (map stateIn bs) a n) (sym e)
+    (stays (states calls) a m a n (post .same) (stands run (subst Positive e pos)))
+
+answered : {room : ℕ} {first : Mem} {calls : List Call} {a : Accumulator} {m : Mem} (run : Run room first calls a m) → Answered run
+unfolding Answered
+answered begun = tt
+answered (adding bytes r n run post) = (answered run, post .answer)
+answered (writing out r n after run post) = (answered run, post .answer)
+
+-- ---- the theorem
+
+-- What is compared, with none accepted too.
+record Compared (sts : List State) (a : Accumulator) (m : Mem) : Type 0 where
+  precision : a .precision ≡ smallestPrecision sts
+  sparse-precision : a .«sparse_precision» ≡ smallestSparsePrecision sts
+  mask : a .allowed ≡ commonBits sts
+  registers : rollupRegisters (a .form) a m ≡ largestRegisters sts
+
+compared : (sts : List State) (a : Accumulator) (m : Mem) → Stands sts a m → Compared sts a m
+unfolding over largestRegisters rollupRegisters
+compared [] a m e =
+    record {
+      precision = ap (λ (h : Accumulator). h .precision) e;
+      sparse-precision = ap (λ (h : Accumulator). h .«sparse_precision») e;
+      mask = ap (λ (h : Accumulator). h .allowed) e;
+      registers = ap (λ (h : Accumulator). rollupRegisters (h .form) h m) e;
+    }
+compared (st ∷ sts) a m t = record { precision = t .precision; sparse-precision = t .sparse-precision; mask = t .mask; registers = t .registers }
+
+pub demand-three : DemandThree
+unfolding DemandThree
+demand-three room first calls a m run pos =
+    let s = stands run pos in
+    let c = compared (states calls) a m s in
+    record {
+      answers = answered run;
+      none = λ (e : accepted calls ≡ []). subst (λ (bs : List (List ℕ)). Stands (map stateIn bs) a m) e s;
+      precision = c .precision;
+      sparse-precision = c .sparse-precision;
+      mask = c .mask;
+      registers = c .registers;
+    }
+
+-- ---- the order is free
+
+module _ (c d : List (List ℕ)) (there : (bytes : List ℕ) → List·Memᴰ bytes c → List·Memᴰ bytes d) where
+  state-there : (s : State) → List·Memᴰ s (map stateIn c) → List·Memᴰ s (map stateIn d)
+  state-there s i =
+      let w = Memᴰ·of-map stateIn c i in
+      subst (λ (x : State). List·Memᴰ x (map stateIn d)) (w .2) (Memᴰ·map stateIn (there (w .0) (w .1)))
+
+all-small : (c : List (List ℕ)) (s : State) → List·Memᴰ s (map stateIn c) → s .hll .sparsePrecision < 2 ^ 32
+all-small c s i = let w = Memᴰ·of-map stateIn c i in subst (λ (x : State). x .hll .sparsePrecision < 2 ^ 32) (w .2) (sparse-small (w .0))
+
+pub order-free : OrderFree
+unfolding OrderFree DemandThree NoZeroRank largestRegisters
+order-free room room′ first first′ c d a b m n run run′ pos set =
+    let there = state-there (accepted c) (accepted d) (set .there) in
+    let back = state-there (accepted d) (accepted c) (set .back) in
+    let x = demand-three room first c a m run pos in
+    let y = demand-three room′ first′ d b n run′ (λ (s : State) (i : List·Memᴰ s (states d)). pos s (back s i)) in
+    let q = smallestPrecision (states c) in
+    let low : q ≡ smallestPrecision (states d) =
+    over-set Any 0 min (λ (s : State). s .hll .precision) min-joins (states c) (states d) there back (λ (s : State) (i : List·Memᴰ s (states c)). tt) in
+    record {
+      precision = x .precision ∙ low ∙ sym (y .precision);
+      sparse-precision =
+          x .sparse-precision
+          ∙ over-set Small 0 signedMin (λ (s : State). s .hll .sparsePrecision) signed-joins (states c) (states d) there back (all-small (accepted c))
+          ∙ sym (y .sparse-precision);
+      mask =
+          x .mask
+          ∙ over-set Any 0 bitAnd (λ (s : State). maskOf (s .valueType)) and-joins (states c) (states d) there back
+          (λ (s : State) (i : List·Memᴰ s (states c)). tt)
+          ∙ sym (y .mask);
+      registers =
+          x .registers
+          ∙ over-set (λ (l : List ℕ). length l ≡ 2 ^ q) [] larger (at q) (larger-joins q) (states c) (states d) there back
+          (λ (s : State) (i : List·Memᴰ s (states c)). lowered-length (s .hll .precision - q) q (registersIn s))
+          ∙ ap (λ (k : ℕ). over [] larger (at k) (states d)) low
+          ∙ sym (y .registers);
+    }

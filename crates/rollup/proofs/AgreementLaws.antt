@@ -1,0 +1,474 @@
+-- One call and what is compared by demand 3. A refusal and a write leave it as it was. An accepted state is one equation, whatever the roll-up's form:
+-- the precision, the sparse precision and the mask become the smaller ones and the common bits, and the registers the larger of the roll-up's and the
+-- state's, both lowered to the smaller precision.
+use Prim.Native.Nat.{ℕ, zero, suc, _+_, _-_, _/_, _^_, _<_, _≤_, max, min}
+use mathlib.Core.Path.{_≡_, refl, sym, ap, ap₂, _∙_, subst}
+use mathlib.Core.Bool.{Bool, true, false, cond, not}
+use mathlib.Core.List.{List, [], _∷_, _++_, append-assoc, append-nil, List·Permᴰ, List·Memᴰ}
+use native.Mathlib.Nat.{min-le-left, min-le-right, min-eq-left, le-of-eq}
+use native.Mathlib.Omega.{arith}
+use lib.Dec.{ltb, eqb}
+use lib.ListN.{length, take, replicate, length-replicate}
+use borrow.Author.Tests.{eqb-true, eqb-false}
+use Rattle.wire.specs.State.{State}
+use Rattle.lists.specs.Values.{Pair, register, rank}
+use Rattle.lists.specs.Lists.{allValid, written, merged}
+use Rattle.lists.specs.Registers.{registerBytes, registersOf, withRegisters, zeros, rankAt, raisedBy, raisedLower, larger, lowered}
+use Rattle.lists.proofs.MergeLaws.{merged-valid}
+use Rattle.lists.proofs.DecodingLaws.{Accepted, accepted}
+use Rattle.lists.proofs.RankLaws.{rank-append, rank-perm, rank-merged, raised-length, raised-append, raised-larger, raised-lowered, lower-larger, lower-length, larger-length, lowered-length, registers-same, valid-inside, valid-inside-lower, row-raised, row-same}
+use Rattle.lists.proofs.RegisterLaws.{of-length, of-with, of-front}
+use Rattle.rollup.specs.declared.accumulator.Form.{Form}
+use Rattle.rollup.specs.declared.accumulator.Form.the-variants.{Unstarted, Sparse, Dense}
+use Rattle.rollup.specs.declared.accumulator.Accumulator.{Accumulator}
+use Rattle.rollup.specs.Accumulator.{Mem, keptOf, waitingOf, limit}
+use Rattle.rollup.specs.Header.{dataOf, listOf, isEmpty, maskOf}
+use Rattle.rollup.specs.Adding.{After, unchanged, listHead, denseHead, commonMask, sumCount, startAfter, settle, waits, inserts, listAfter, sparseAfter, signedMin, signedKey, raisedByState, denseAfter, acceptedAfter, isStarted, wantedPrecision, Ready, Shows}
+use Rattle.rollup.specs.Calls.{valuesIn, listRegisters, registersIn, rollupRegisters}
+use Rattle.rollup.proofs.FitLaws.{FitSparse, FitDense, fit-sparse, fit-dense}
+use Rattle.rollup.proofs.JudgeLaws.{JudgedFacts, judged-facts, room-facts}
+use Rattle.rollup.proofs.KeepsLaws.{valid-append}
+
+-- ---- the registers of a list
+
+-- They depend on the largest ranks alone: order, and what a merge drops, change nothing.
+list-same : (p s : ℕ) (a b : List ℕ) → ((j : ℕ) → rankAt p s j a ≡ rankAt p s j b) → listRegisters p s a ≡ listRegisters p s b
+unfolding listRegisters
+list-same p s a b e = row-same p s a b e
+
+list-merged : (p s : ℕ) (a b : List ℕ) → listRegisters p s (merged p s a b) ≡ listRegisters p s (a ++ b)
+list-merged p s a b = list-same p s (merged p s a b) (a ++ b) (λ (j : ℕ). rank-merged p s j a b)
+
+abbrev row : ℕ → ℕ → List ℕ → List ℕ
+row p s l = raisedBy p s (zeros p) l
+
+row-length : (p s : ℕ) (l : List ℕ) → length (row p s l) ≡ 2 ^ p
+row-length p s l = raised-length p s (zeros p) l ∙ length-replicate (2 ^ p) 0
+
+-- Of valid values they are what the values make of zeros.
+module _ (p s : ℕ) (pair : Pair p s) where
+  list-row : (l : List ℕ) → allValid p s l ≡ true → listRegisters p s l ≡ row p s l
+  unfolding listRegisters
+  list-row l ok = row-raised p s l (valid-inside p s l pair ok)
+
+  list-length : (l : List ℕ) → allValid p s l ≡ true → length (listRegisters p s l) ≡ 2 ^ p
+  list-length l ok = ap length (list-row l ok) ∙ row-length p s l
+
+  list-append : (a b : List ℕ) → allValid p s a ≡ true → allValid p s b ≡ true
+      → listRegisters p s (a ++ b) ≡ larger (listRegisters p s a) (listRegisters p s b)
+  list-append a b f g =
+      list-row (a ++ b) (valid-append p s a b f g)
+      ∙ raised-append p s (zeros p) a b
+      ∙ raised-larger p s (row p s a) b (row-length p s a) (valid-inside p s b pair g)
+      ∙ sym (ap₂ larger (list-row a f) (list-row b g))
+
+-- Registers of the precision itself are not changed by lowering.
+pub lowered-here : (p q : ℕ) (regs : List ℕ) → q ≡ p → length regs ≡ 2 ^ p → lowered (p - q) q regs ≡ regs
+lowered-here p q regs e f =
+    ap₂ (λ (d k : ℕ). lowered d k regs) (let z : p - q ≡ 0 = omega arith in z) e ∙ registers-same p regs f
+
+-- ---- what a call left
+
+module _ (x : After) (r : Accumulator) (n : Mem) (sh : Shows x r n) where
+  left-form : (f : Form) → x .head .form ≡ f → rollupRegisters (r .form) r n ≡ rollupRegisters f r n
+  left-form f e = ap (λ (g : Form). rollupRegisters g r n) (ap (λ (h : Accumulator). h .form) (sh .head) ∙ e)
+
+  left-none : x .head .form ≡ Unstarted → rollupRegisters (r .form) r n ≡ []
+  unfolding rollupRegisters
+  left-none e = left-form Unstarted e
+
+  left-list : x .head .form ≡ Sparse
+      → rollupRegisters (r .form) r n ≡ listRegisters (x .head .precision) (x .head .«sparse_precision») (x .kept ++ x .waiting)
+  unfolding rollupRegisters
+  left-list e =
+      let p = r .precision in
+      let s = r .«sparse_precision» in
+      left-form Sparse e
+      ∙ list-same p s (keptOf r n ++ waitingOf r n) (x .kept ++ x .waiting)
+      (λ (j : ℕ).
+      rank-append p s j (keptOf r n) (waitingOf r n)
+      ∙ ap₂ max (ap (rankAt p s j) (sh .kept)) (rank-perm p s j (sh .waiting))
+      ∙ sym (rank-append p s j (x .kept) (x .waiting)))
+      ∙ ap (λ (h : Accumulator). listRegisters (h .precision) (h .«sparse_precision») (x .kept ++ x .waiting)) (sh .head)
+
+  left-dense : x .head .form ≡ Dense → rollupRegisters (r .form) r n ≡ registersOf (x .head .precision) (x .registers)
+  unfolding rollupRegisters
+  left-dense e = left-form Dense e ∙ ap₂ registersOf (ap (λ (h : Accumulator). h .precision) (sh .head)) (sh .registers)
+
+-- A refusal and a write.
+pub same-registers : (a : Accumulator) (m : Mem) (r : Accumulator) (n : Mem) → Shows (unchanged a m) r n
+    → rollupRegisters (r .form) r n ≡ rollupRegisters (a .form) a m
+unfolding rollupRegisters
+same-registers a m r n sh = by-form (a .form) refl
+  where
+    by-form : (f : Form) → a .form ≡ f → rollupRegisters (r .form) r n ≡ rollupRegisters (a .form) a m
+    by-form Unstarted e = left-none (unchanged a m) r n sh e ∙ sym (ap (λ (f : Form). rollupRegisters f a m) e)
+    by-form Sparse e = left-list (unchanged a m) r n sh e ∙ sym (ap (λ (f : Form). rollupRegisters f a m) e)
+    by-form Dense e = left-dense (unchanged a m) r n sh e ∙ sym (ap (λ (f : Form). rollupRegisters f a m) e)
+
+-- What is compared, of a roll-up that was started.
+pub record Took (p s bits : ℕ) (regs : List ℕ) (r : Accumulator) (n : Mem) : Type 0 where
+  pub started : isStarted (r .form) ≡ true
+  pub precision : r .precision ≡ p
+  pub sparse-precision : r .«sparse_precision» ≡ s
+  pub mask : r .allowed ≡ bits
+  pub registers : rollupRegisters (r .form) r n ≡ regs
+
+module _ (x : After) (r : Accumulator) (n : Mem) (regs : List ℕ) (sh : Shows x r n) where
+  with-form : (f : Form) → x .head .form ≡ f → isStarted f ≡ true → rollupRegisters (r .form) r n ≡ regs
+      → Took (x .head .precision) (x .head .«sparse_precision») (x .head .allowed) regs r n
+  with-form f e s g =
+      record {
+        started = ap isStarted (ap (λ (h : Accumulator). h .form) (sh .head) ∙ e) ∙ s;
+        precision = ap (λ (h : Accumulator). h .precision) (sh .head);
+        sparse-precision = ap (λ (h : Accumulator). h .«sparse_precision») (sh .head);
+        mask = ap (λ (h : Accumulator). h .allowed) (sh .head);
+        registers = g;
+      }
+
+  took-list : x .head .form ≡ Sparse → listRegisters (x .head .precision) (x .head .«sparse_precision») (x .kept ++ x .waiting) ≡ regs
+      → Took (x .head .precision) (x .head .«sparse_precision») (x .head .allowed) regs r n
+  took-list e g = with-form Sparse e refl (left-list x r n sh e ∙ g)
+
+  took-dense : x .head .form ≡ Dense → registersOf (x .head .precision) (x .registers) ≡ regs
+      → Took (x .head .precision) (x .head .«sparse_precision») (x .head .allowed) regs r n
+  took-dense e g = with-form Dense e refl (left-dense x r n sh e ∙ g)
+
+-- ---- small things
+
+no-bytes : (l : List ℕ) → isEmpty l ≡ true → length l ≡ 0
+no-bytes l e = eqb-true (length l) 0 e
+
+some-bytes : (l : List ℕ) → isEmpty l ≡ false → 0 < length l
+some-bytes l e = positive (length l) (eqb-false (length l) 0 e)
+  where
+    positive : (k : ℕ) → (k ≡ 0 → ⊥) → 0 < k
+    positive zero f = absurd (f refl)
+    positive (suc k) f = omega arith
+
+none-of : (l : List ℕ) → length l ≡ 0 → l ≡ []
+none-of [] e = refl
+none-of (x ∷ l) e = absurd (let z : ⊥ = omega arith in z)
+
+-- A choice, each way.
+either : {A : Type 0} (P : A → Type 0) (b : Bool) (x y : A) → (b ≡ true → P x) → (b ≡ false → P y) → P (cond b x y)
+either P true x y f g = f refl
+either P false x y f g = g refl
+
+-- The smaller of two that are the same.
+signed-same : (x y : ℕ) → y ≡ x → signedMin x y ≡ x
+signed-same x y e = go (ltb (signedKey y) (signedKey x))
+  where
+    go : (b : Bool) → cond b y x ≡ x
+    go true = e
+    go false = refl
+
+-- ---- an accepted state
+
+module _ (a : Accumulator) (m : Mem) (room : ℕ) (st : State) (ready : Ready a m room st (valuesIn st)) where
+  abbrev sp : ℕ
+  sp = st .hll .precision
+
+  abbrev ss : ℕ
+  ss = st .hll .sparsePrecision
+
+  abbrev vs : List ℕ
+  vs = valuesIn st
+
+  facts : JudgedFacts a st
+  facts = judged-facts a st (ready .judged)
+
+  list-in : Accepted sp ss (listOf st) vs []
+  list-in = accepted sp ss (listOf st) (ready .listed)
+
+  -- Its registers: 2^p of them.
+  in-data : isEmpty (dataOf st) ≡ false → registersIn st ≡ dataOf st
+  unfolding registersIn
+  in-data e = ap (λ (b : Bool). cond b (listRegisters sp ss vs) (dataOf st)) e
+
+  in-list : isEmpty (dataOf st) ≡ true → registersIn st ≡ listRegisters sp ss vs
+  unfolding registersIn
+  in-list e = ap (λ (b : Bool). cond b (listRegisters sp ss vs) (dataOf st)) e
+
+  state-pair : isEmpty (dataOf st) ≡ true → Pair sp ss
+  state-pair e = facts .pair (no-bytes (dataOf st) e)
+
+  pub in-length : length (registersIn st) ≡ 2 ^ sp
+  unfolding registersIn
+  in-length =
+      either (λ (l : List ℕ). length l ≡ 2 ^ sp) (isEmpty (dataOf st)) (listRegisters sp ss vs) (dataOf st)
+      (λ (e : isEmpty (dataOf st) ≡ true). list-length sp ss (state-pair e) vs (list-in .all))
+      (λ (e : isEmpty (dataOf st) ≡ false). facts .size (some-bytes (dataOf st) e))
+
+  registers-room : (f : Form) → a .form ≡ f → registerBytes (wantedPrecision f a st) ≤ length (m .registers)
+  registers-room f e =
+      subst (λ (g : Form). registerBytes (wantedPrecision g a st) ≤ length (m .registers)) e (room-facts a m room st (ready .space) .registers)
+
+  module _ (r : Accumulator) (n : Mem) where
+    -- ---- the first
+
+    start-took : a .form ≡ Unstarted → Shows (startAfter m st vs) r n → Took sp ss (maskOf (st .valueType)) (registersIn st) r n
+    unfolding startAfter
+    start-took f =
+        let mask = maskOf (st .valueType) in
+        let asList : After =
+        record {
+          head = listHead mask (st .valueType) (st .numValues) sp ss (st .hll .sparseSize) (length vs) (length (listOf st)) 0;
+          registers = m .registers;
+          kept = vs;
+          waiting = [];
+        } in
+        let asDense : After =
+        record {
+          head = denseHead mask (st .valueType) (st .numValues) sp ss (st .hll .sparseSize);
+          registers = withRegisters sp (dataOf st) (m .registers);
+          kept = [];
+          waiting = [];
+        } in
+        either (λ (x : After). Shows x r n → Took sp ss mask (registersIn st) r n) (isEmpty (dataOf st)) asList asDense
+        (λ (e : isEmpty (dataOf st) ≡ true) (sh : Shows asList r n).
+        took-list asList r n (registersIn st) sh refl (ap (listRegisters sp ss) (append-nil vs) ∙ sym (in-list e)))
+        (λ (e : isEmpty (dataOf st) ≡ false) (sh : Shows asDense r n).
+        took-dense asDense r n (registersIn st) sh refl
+        (of-with sp (m .registers) (registers-room Unstarted f) (dataOf st) (facts .size (some-bytes (dataOf st) e)) ∙ sym (in-data e)))
+
+    -- ---- one more, at a list roll-up: precisions are the same, so nothing is lowered
+
+    module _ (sparse : a .form ≡ Sparse) where
+      abbrev ap′ : ℕ
+      ap′ = a .precision
+
+      abbrev as′ : ℕ
+      as′ = a .«sparse_precision»
+
+      abbrev own : List ℕ
+      own = keptOf a m ++ waitingOf a m
+
+      -- The larger of its registers and the state's.
+      abbrev joint : List ℕ
+      joint = larger (listRegisters ap′ as′ own) (registersIn st)
+
+      abbrev Joined : Type 0
+      Joined = Took ap′ as′ (commonMask a st) joint r n
+
+      fit-s : FitSparse a m
+      fit-s = fit-sparse a m (ready .fit) sparse
+
+      own-valid : allValid ap′ as′ own ≡ true
+      own-valid = valid-append ap′ as′ (keptOf a m) (waitingOf a m) (fit-s .kept-valid) (fit-s .waiting-valid)
+
+      new-valid : allValid ap′ as′ vs ≡ true
+      new-valid =
+          subst (λ (k : ℕ). allValid k as′ vs ≡ true) (facts .same-normal sparse)
+          (subst (λ (k : ℕ). allValid sp k vs ≡ true) (facts .same-sparse sparse) (list-in .all))
+
+      -- A list's values come to those that are there.
+      with-values : isEmpty (dataOf st) ≡ true → listRegisters ap′ as′ (own ++ vs) ≡ joint
+      with-values e =
+          list-append ap′ as′ (fit-s .pair) own vs own-valid new-valid
+          ∙ ap (larger (listRegisters ap′ as′ own))
+          (sym (in-list e ∙ ap₂ (λ (p s : ℕ). listRegisters p s vs) (facts .same-normal sparse) (facts .same-sparse sparse)))
+
+      settle-took : (l : List ℕ) (bytes : ℕ) → allValid ap′ as′ l ≡ true → listRegisters ap′ as′ l ≡ joint → Shows (settle a m st l bytes) r n → Joined
+      unfolding settle
+      settle-took l bytes ok g =
+          let asList : After =
+          record {
+            head = listHead (commonMask a st) (a .«value_type») (sumCount a st) ap′ as′ (length l) (length l) bytes 0;
+            registers = m .registers;
+            kept = l;
+            waiting = [];
+          } in
+          let asDense : After =
+          record {
+            head = denseHead (commonMask a st) (a .«value_type») (sumCount a st) ap′ as′ 0;
+            registers = withRegisters ap′ (row ap′ as′ l) (m .registers);
+            kept = [];
+            waiting = [];
+          } in
+          either (λ (x : After). Shows x r n → Joined) (ltb bytes (limit ap′)) asList asDense
+          (λ (e : ltb bytes (limit ap′) ≡ true) (sh : Shows asList r n).
+          took-list asList r n joint sh refl (ap (listRegisters ap′ as′) (append-nil l) ∙ g))
+          (λ (e : ltb bytes (limit ap′) ≡ false) (sh : Shows asDense r n).
+          took-dense asDense r n joint sh refl
+          (of-with ap′ (m .registers) (registers-room Sparse sparse) (row ap′ as′ l) (row-length ap′ as′ l)
+          ∙ sym (list-row ap′ as′ (fit-s .pair) l ok)
+          ∙ g))
+
+      -- Values merged into those kept, where they and those kept are all that there is.
+      merge-took : (l : List ℕ) (bytes : ℕ) → isEmpty (dataOf st) ≡ true → allValid ap′ as′ l ≡ true → keptOf a m ++ l ≡ own ++ vs
+          → Shows (settle a m st (merged ap′ as′ (keptOf a m) l) bytes) r n → Joined
+      merge-took l bytes e ok g =
+          settle-took (merged ap′ as′ (keptOf a m) l) bytes (merged-valid ap′ as′ (keptOf a m) l (fit-s .kept-valid) ok)
+          (list-merged ap′ as′ (keptOf a m) l ∙ ap (listRegisters ap′ as′) g ∙ with-values e)
+
+      -- With nothing waiting.
+      kept-only : not (eqb (a .«pending_len») 0) ≡ false → keptOf a m ++ vs ≡ own ++ vs
+      kept-only e =
+          let z : a .«pending_len» ≡ 0 = eqb-true (a .«pending_len») 0 (settled (eqb (a .«pending_len») 0) e) in
+          ap (λ (l : List ℕ). l ++ vs) (sym (append-nil (keptOf a m)))
+          ∙ ap (λ (k : ℕ). (keptOf a m ++ take k (m .pending)) ++ vs) (sym z)
+        where
+          settled : (b : Bool) → not b ≡ false → b ≡ true
+          settled true f = refl
+          settled false f = sym f
+
+      list-took : isEmpty (dataOf st) ≡ true → Shows (listAfter a m st vs) r n → Joined
+      unfolding listAfter
+      list-took e =
+          let kept = keptOf a m in
+          let waiting = waitingOf a m in
+          let P : After → Type 0 = λ (x : After). Shows x r n → Joined in
+          let asWaiting : After =
+          record {
+            head =
+                listHead (commonMask a st) (a .«value_type») (sumCount a st) ap′ as′ (a .«sparse_size») (a .«sparse_len») (a .«sparse_bytes»)
+                (a .«pending_len» + length vs);
+            registers = m .registers;
+            kept = kept;
+            waiting = waiting ++ vs;
+          } in
+          let all = settle a m st (merged ap′ as′ kept (waiting ++ vs)) (written (merged ap′ as′ kept (waiting ++ vs))) in
+          let inserted = settle a m st (merged ap′ as′ kept vs) (a .«sparse_bytes» + written (merged ap′ as′ kept vs) - written kept) in
+          let mergedIn = settle a m st (merged ap′ as′ kept vs) (written (merged ap′ as′ kept vs)) in
+          let one : kept ++ (waiting ++ vs) ≡ own ++ vs = sym (append-assoc kept waiting vs) in
+          either P (waits a (length vs)) asWaiting (cond (not (eqb (a .«pending_len») 0)) all (cond (inserts a m (length vs)) inserted mergedIn))
+          (λ (f : waits a (length vs) ≡ true) (sh : Shows asWaiting r n).
+          took-list asWaiting r n joint sh refl (ap (listRegisters ap′ as′) one ∙ with-values e))
+          (λ (f : waits a (length vs) ≡ false).
+          either P (not (eqb (a .«pending_len») 0)) all (cond (inserts a m (length vs)) inserted mergedIn)
+          (λ (g : not (eqb (a .«pending_len») 0) ≡ true).
+          merge-took (waiting ++ vs) (written (merged ap′ as′ kept (waiting ++ vs))) e
+          (valid-append ap′ as′ waiting vs (fit-s .waiting-valid) new-valid) one)
+          (λ (g : not (eqb (a .«pending_len») 0) ≡ false).
+          either P (inserts a m (length vs)) inserted mergedIn
+          (λ (h : inserts a m (length vs) ≡ true).
+          merge-took vs (a .«sparse_bytes» + written (merged ap′ as′ kept vs) - written kept) e new-valid (kept-only g))
+          (λ (h : inserts a m (length vs) ≡ false). merge-took vs (written (merged ap′ as′ kept vs)) e new-valid (kept-only g))))
+
+      sparse-joined : Shows (sparseAfter a m st vs) r n → Joined
+      unfolding sparseAfter
+      sparse-joined =
+          let P : After → Type 0 = λ (x : After). Shows x r n → Joined in
+          let same : After =
+          record {
+            head =
+                listHead (commonMask a st) (a .«value_type») (sumCount a st) ap′ as′ (a .«sparse_size») (a .«sparse_len») (a .«sparse_bytes»)
+                (a .«pending_len»);
+            registers = m .registers;
+            kept = keptOf a m;
+            waiting = waitingOf a m;
+          } in
+          let asDense : After =
+          record {
+            head = denseHead (commonMask a st) (a .«value_type») (sumCount a st) ap′ as′ 0;
+            registers = withRegisters ap′ (larger (row ap′ as′ own) (dataOf st)) (m .registers);
+            kept = [];
+            waiting = [];
+          } in
+          either P (isEmpty (dataOf st)) (cond (isEmpty (listOf st)) same (listAfter a m st vs)) asDense
+          (λ (e : isEmpty (dataOf st) ≡ true).
+          either P (isEmpty (listOf st)) same (listAfter a m st vs)
+          (λ (f : isEmpty (listOf st) ≡ true) (sh : Shows same r n).
+          let none : vs ≡ [] = none-of vs (let z : length vs ≡ 0 = omega (arith, list-in .fewer, no-bytes (listOf st) f) in z) in
+          took-list same r n joint sh refl
+          (ap (listRegisters ap′ as′) (sym (append-nil own) ∙ ap (λ (l : List ℕ). own ++ l) (sym none)) ∙ with-values e))
+          (λ (f : isEmpty (listOf st) ≡ false). list-took e))
+          (λ (e : isEmpty (dataOf st) ≡ false) (sh : Shows asDense r n).
+          took-dense asDense r n joint sh refl
+          (of-with ap′ (m .registers) (registers-room Sparse sparse) (larger (row ap′ as′ own) (dataOf st))
+          (larger-length (row ap′ as′ own) (dataOf st) ∙ row-length ap′ as′ own)
+          ∙ ap₂ larger (sym (list-row ap′ as′ (fit-s .pair) own own-valid)) (sym (in-data e))))
+
+    -- ---- one more, whatever the form
+
+    abbrev least : ℕ
+    least = min (a .precision) sp
+
+    abbrev largerOf : List ℕ → List ℕ
+    largerOf regs = larger (lowered (a .precision - least) least regs) (lowered (sp - least) least (registersIn st))
+
+    abbrev More : Type 0
+    More = Took least (signedMin (a .«sparse_precision») ss) (commonMask a st) (largerOf (rollupRegisters (a .form) a m)) r n
+
+    sparse-took : a .form ≡ Sparse → Shows (sparseAfter a m st vs) r n → More
+    unfolding rollupRegisters
+    sparse-took f sh =
+        let t = sparse-joined f sh in
+        let same : least ≡ a .precision = min-eq-left (le-of-eq (sym (facts .same-normal f))) in
+        record {
+          started = t .started;
+          precision = t .precision ∙ sym same;
+          sparse-precision = t .sparse-precision ∙ sym (signed-same (a .«sparse_precision») ss (facts .same-sparse f));
+          mask = t .mask;
+          registers =
+              t .registers
+              ∙ sym
+              (ap largerOf (ap (λ (g : Form). rollupRegisters g a m) f)
+              ∙ ap₂ larger
+              (lowered-here (a .precision) least (listRegisters (a .precision) (a .«sparse_precision») (own f)) same
+              (list-length (a .precision) (a .«sparse_precision») (fit-s f .pair) (own f) (own-valid f)))
+              (lowered-here sp least (registersIn st) (same ∙ sym (facts .same-normal f)) in-length));
+        }
+
+    -- ---- a dense roll-up
+
+    module _ (dense : a .form ≡ Dense) (pos : (v : ℕ) → List·Memᴰ v vs → 0 < rank sp ss v) where
+      fit-d : FitDense a m
+      fit-d = fit-dense a m (ready .fit) dense
+
+      abbrev low : List ℕ
+      low = lowered (a .precision - least) least (registersOf (a .precision) (m .registers))
+
+      low-long : length low ≡ 2 ^ least
+      low-long = lowered-length (a .precision - least) least (registersOf (a .precision) (m .registers))
+
+      split : sp ≡ least + (sp - least)
+      split = omega (arith, min-le-right (a .precision) sp)
+
+      -- A list's values, each lowered, raise as its registers lowered do: here no value may have rank 0.
+      by-list : isEmpty (dataOf st) ≡ true → raisedLower sp ss (sp - least) low vs ≡ larger low (lowered (sp - least) least (registersIn st))
+      by-list e =
+          let pair = state-pair e in
+          lower-larger sp ss (sp - least) least low vs low-long (valid-inside-lower sp ss (sp - least) least vs split pair (list-in .all))
+          ∙ ap (larger low)
+          (sym (raised-lowered sp ss (sp - least) least vs split (valid-inside sp ss vs pair (list-in .all)) pos)
+          ∙ ap (lowered (sp - least) least) (sym (in-list e ∙ list-row sp ss pair vs (list-in .all))))
+
+      by-state : raisedByState least st vs low ≡ larger low (lowered (sp - least) least (registersIn st))
+      by-state =
+          either (λ (l : List ℕ). l ≡ larger low (lowered (sp - least) least (registersIn st))) (isEmpty (dataOf st))
+          (raisedLower sp ss (sp - least) low vs) (larger low (lowered (sp - least) least (dataOf st))) by-list
+          (λ (e : isEmpty (dataOf st) ≡ false). ap (λ (l : List ℕ). larger low (lowered (sp - least) least l)) (sym (in-data e)))
+
+      dense-took : Shows (denseAfter a m st vs) r n → More
+      unfolding denseAfter rollupRegisters
+      dense-took sh =
+          let p = a .precision in
+          let front = raisedByState least st vs low in
+          let x : After =
+          record {
+            head =
+                denseHead (commonMask a st) (a .«value_type») (sumCount a st) least (signedMin (a .«sparse_precision») ss) (a .«sparse_size»);
+            registers = withRegisters p (front ++ replicate (2 ^ p - 2 ^ least) 0) (m .registers);
+            kept = [];
+            waiting = [];
+          } in
+          took-dense x r n (largerOf (rollupRegisters (a .form) a m)) sh refl
+          (of-front least p front (replicate (2 ^ p - 2 ^ least) 0) (m .registers)
+          (ap length by-state ∙ larger-length low (lowered (sp - least) least (registersIn st)) ∙ low-long)
+          ∙ by-state
+          ∙ ap largerOf (sym (ap (λ (g : Form). rollupRegisters g a m) dense)))
+
+    -- ---- both
+
+    pub first-took : a .form ≡ Unstarted → Shows (acceptedAfter (a .form) a m st vs) r n → Took sp ss (maskOf (st .valueType)) (registersIn st) r n
+    first-took f sh = start-took f (subst (λ (g : Form). Shows (acceptedAfter g a m st vs) r n) f sh)
+
+    pub more-took : isStarted (a .form) ≡ true → ((v : ℕ) → List·Memᴰ v vs → 0 < rank sp ss v) → Shows (acceptedAfter (a .form) a m st vs) r n → More
+    more-took s pos = by-form (a .form) refl s
+      where
+        by-form : (f : Form) → a .form ≡ f → isStarted f ≡ true → Shows (acceptedAfter f a m st vs) r n → More
+        by-form Unstarted e t = absurd (let z : _≡_ {A = ℕ} 0 1 = cc in omega arith)
+        by-form Sparse e t = sparse-took e
+        by-form Dense e t = dense-took e pos

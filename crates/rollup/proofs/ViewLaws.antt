@@ -1,0 +1,181 @@
+-- One view of a call: it was refused, with a number and nothing changed, or accepted, with all that the questions told. And what follows of both:
+-- whatever a call was and answered, what it leaves fits again. No file but AddLaws and this one looks at the questions of `addOutcome`.
+use Prim.Native.Nat.{ℕ, zero, suc, _^_, _<_, _≤_}
+use mathlib.Core.Path.{_≡_, refl, sym, ap, _∙_, subst}
+use mathlib.Core.Bool.{Bool, true, false, cond}
+use mathlib.Core.Logic.{_⊎_, inl, inr, ⊎-elim}
+use mathlib.Core.List.{List, []}
+use native.Mathlib.Omega.{arith}
+use lib.Dec.{leb, eqb}
+use lib.ListN.{length}
+use borrow.Author.Tests.{leb-true, eqb-false}
+use Rattle.wire.specs.Reading.{Read, got, refused, andThen}
+use Rattle.wire.specs.State.{State, emptyState, readState}
+use Rattle.wire.proofs.BoundLaws.{sparse-data-within, sparse-precision-small, read-number}
+use Rattle.lists.proofs.DecodingLaws.{accepted, decode-number}
+use Rattle.rollup.specs.declared.accumulator.Accumulator.{Accumulator}
+use Rattle.rollup.specs.declared.adding.Added.{Added}
+use Rattle.rollup.specs.declared.writing.Written.{Written}
+use Rattle.rollup.specs.Accumulator.{Mem, fits, fresh}
+use Rattle.rollup.specs.Header.{listOf, headerAnswer}
+use Rattle.rollup.specs.Adding.{Outcome, unchanged, refuse, accept, acceptedAfter, masksMeet, carried, judgeState, judge, hasRoom, listedIn, addOutcome, Ready, Shows, AddPost}
+use Rattle.rollup.specs.Writing.{WritePost}
+use Rattle.rollup.specs.Calls.{Call, Run, begun, adding, writing, valueOr, stateIn, valuesIn}
+use Rattle.rollup.proofs.FitLaws.{fit-none-back}
+use Rattle.rollup.proofs.AddLaws.{add-judged, add-full, add-listed, add-accepted}
+use Rattle.rollup.proofs.KeepsLaws.{accepted-keeps, refused-keeps}
+
+-- ---- questions 2 to 16
+
+-- What a state that passed them was.
+record JudgedRead (a : Accumulator) (bytes : List ℕ) (st : State) : Type 0 where
+  short : length bytes ≤ 2147483647
+  rest : List ℕ
+  read : readState bytes ≡ got st rest
+  judged : judgeState a st ≡ got st []
+
+same-state : (a : Accumulator) (st other : State) (rest : List ℕ) → judgeState a st ≡ got other rest → (st ≡ other) × (judgeState a st ≡ got st [])
+unfolding judgeState
+same-state a st other rest = pick (eqb (headerAnswer st) 0) (masksMeet a st) (carried a st)
+  where
+    pick : (h m c : Bool) → cond h (cond m (cond c (got st []) (refused 16)) (refused 15)) (refused (headerAnswer st)) ≡ got other rest
+        → (st ≡ other) × (cond h (cond m (cond c (got st []) (refused 16)) (refused 15)) (refused (headerAnswer st)) ≡ got st [])
+    pick true true true e = (cc, refl)
+    pick true true false e = absurd (let z : _≡_ {A = ℕ} 0 1 = cc in omega arith)
+    pick true false c e = absurd (let z : _≡_ {A = ℕ} 0 1 = cc in omega arith)
+    pick false m c e = absurd (let z : _≡_ {A = ℕ} 0 1 = cc in omega arith)
+
+-- A number that is not 0.
+above : (n : ℕ) → eqb n 0 ≡ false → 0 < n
+above zero e = absurd (let z : _≡_ {A = ℕ} 0 1 = cc in omega arith)
+above (suc n) e = omega arith
+
+judge-got : (a : Accumulator) (bytes : List ℕ) (st : State) (rest : List ℕ) → judge a bytes ≡ got st rest → JudgedRead a bytes st
+unfolding judge
+judge-got a bytes st rest = by-length (leb (length bytes) 2147483647) refl
+  where
+    by-read : length bytes ≤ 2147483647 → (x : Read State) → readState bytes ≡ x → andThen x (λ st nothing. judgeState a st) ≡ got st rest → JudgedRead a bytes st
+    by-read l (refused n) f e = absurd (let z : _≡_ {A = ℕ} 0 1 = cc in omega arith)
+    by-read l (got read more) f e =
+        let same = same-state a read st rest e in
+        record {
+          short = l;
+          rest = more;
+          read = f ∙ ap (λ (x : State). got x more) (same .0);
+          judged = subst (λ (x : State). judgeState a x ≡ got x []) (same .0) (same .1);
+        }
+    by-length : (b : Bool) → leb (length bytes) 2147483647 ≡ b → cond b (andThen (readState bytes) (λ st nothing. judgeState a st)) (refused 2) ≡ got st rest → JudgedRead a bytes st
+    by-length true l e = by-read (leb-true (length bytes) 2147483647 l) (readState bytes) refl e
+    by-length false l e = absurd (let z : _≡_ {A = ℕ} 0 1 = cc in omega arith)
+
+-- And one that did not has a number above 0.
+judge-number : (a : Accumulator) (bytes : List ℕ) (n : ℕ) → judge a bytes ≡ refused n → 0 < n
+unfolding judge judgeState
+judge-number a bytes n = by-length (leb (length bytes) 2147483647)
+  where
+    by-state : (st : State) (h m c : Bool) → eqb (headerAnswer st) 0 ≡ h
+        → cond h (cond m (cond c (got st []) (refused 16)) (refused 15)) (refused (headerAnswer st)) ≡ refused n → 0 < n
+    by-state st true true true f e = absurd (let z : _≡_ {A = ℕ} 0 1 = cc in omega arith)
+    by-state st true true false f e = let z : 16 ≡ n = cc in omega arith
+    by-state st true false c f e = let z : 15 ≡ n = cc in omega arith
+    by-state st false m c f e = let z : headerAnswer st ≡ n = cc in let k = above (headerAnswer st) f in omega arith
+    by-read : (x : Read State) → readState bytes ≡ x → andThen x (λ st nothing. judgeState a st) ≡ refused n → 0 < n
+    by-read (refused k) f e = let z : k ≡ n = cc in let p = read-number bytes k f in omega arith
+    by-read (got st more) f e = by-state st (eqb (headerAnswer st) 0) (masksMeet a st) (carried a st) refl e
+    by-length : (b : Bool) → cond b (andThen (readState bytes) (λ st nothing. judgeState a st)) (refused 2) ≡ refused n → 0 < n
+    by-length true e = by-read (readState bytes) refl e
+    by-length false e = let z : 2 ≡ n = cc in omega arith
+
+-- ---- the view
+
+pub record IsRefused (a : Accumulator) (m : Mem) (r : Added) (n : Mem) : Type 0 where
+  pub number : r .answer ≡ 0 → ⊥
+  pub same : Shows (unchanged a m) (r .head) n
+
+-- The bytes are a state and its list was read, so that `stateIn` and `valuesIn` are what the definition went on with.
+pub record IsAccepted (a : Accumulator) (m : Mem) (room : ℕ) (bytes : List ℕ) (r : Added) (n : Mem) : Type 0 where
+  pub none : r .answer ≡ 0
+  pub ready : Ready a m room (stateIn bytes) (valuesIn (stateIn bytes))
+  pub shows : Shows (acceptedAfter (a .form) a m (stateIn bytes) (valuesIn (stateIn bytes))) (r .head) n
+
+module _ (a : Accumulator) (m : Mem) (room : ℕ) (bytes : List ℕ) (r : Added) (n : Mem) (fit : fits a m ≡ true) (post : AddPost a m room bytes r n) where
+  abbrev View : Type 0
+  View = IsRefused a m r n ⊎ IsAccepted a m room bytes r n
+
+  with-number : (k : ℕ) → 0 < k → addOutcome a m room bytes ≡ refuse k a m → View
+  with-number k h e =
+      inl (record {
+        number = λ (z : r .answer ≡ 0).
+            let f : k ≡ 0 = sym (ap (λ (x : Outcome). x .answer) e) ∙ sym (post .answer) ∙ z in
+            omega arith;
+        same = subst (λ (x : Outcome). Shows (x .after) (r .head) n) e (post .after);
+      })
+
+  with-state : (st : State) (vs : List ℕ) → stateIn bytes ≡ st → valuesIn st ≡ vs → Ready a m room st vs
+      → addOutcome a m room bytes ≡ accept (acceptedAfter (a .form) a m st vs) → View
+  with-state st vs s v ready e =
+      inr (record {
+        none = post .answer ∙ ap (λ (x : Outcome). x .answer) e;
+        ready =
+            subst (λ (x : State). Ready a m room x (valuesIn x)) (sym s) (subst (λ (l : List ℕ). Ready a m room st l) (sym v) ready);
+        shows =
+            subst (λ (x : State). Shows (acceptedAfter (a .form) a m x (valuesIn x)) (r .head) n) (sym s)
+            (subst (λ (l : List ℕ). Shows (acceptedAfter (a .form) a m st l) (r .head) n) (sym v)
+            (subst (λ (x : Outcome). Shows (x .after) (r .head) n) e (post .after)));
+      })
+
+  pub add-view : View
+  unfolding stateIn valuesIn
+  add-view = by-judge (judge a bytes) refl
+    where
+      by-list : (st : State) (rest : List ℕ) → judge a bytes ≡ got st rest → JudgedRead a bytes st → hasRoom a m room st ≡ true
+          → (x : Read (List ℕ)) → listedIn st ≡ x → View
+      by-list st rest f j h (refused k) e =
+          with-number k (decode-number (st .hll .precision) (st .hll .sparsePrecision) (listOf st) k e) (add-listed a m room bytes st rest fit f k h e)
+      by-list st rest f j h (got vs end) e =
+          let whole : listedIn st ≡ got vs [] =
+          e ∙ ap (got vs) (accepted (st .hll .precision) (st .hll .sparsePrecision) (listOf st) e .end) in
+          with-state st vs (ap (valueOr emptyState) (j .read)) (ap (valueOr []) whole)
+          (record {
+            fit = fit;
+            judged = j .judged;
+            space = h;
+            listed = whole;
+            short = omega (arith, sparse-data-within bytes st (j .rest) (j .read), j .short);
+          }) (add-accepted a m room bytes st rest fit f vs end h e)
+      by-room : (st : State) (rest : List ℕ) → judge a bytes ≡ got st rest → (b : Bool) → hasRoom a m room st ≡ b → View
+      by-room st rest f true h = by-list st rest f (judge-got a bytes st rest f) h (listedIn st) refl
+      by-room st rest f false h = with-number 17 (omega arith) (add-full a m room bytes st rest fit f h)
+      by-judge : (x : Read State) → judge a bytes ≡ x → View
+      by-judge (refused k) e = with-number k (judge-number a bytes k e) (add-judged a m room bytes k fit e)
+      by-judge (got st rest) e = by-room st rest e (hasRoom a m room st) refl
+
+  -- "After every call": a head that fits is left by one that was accepted and by one that was refused.
+  pub add-keeps : fits (r .head) n ≡ true
+  add-keeps =
+      ⊎-elim (λ (x : IsRefused a m r n). refused-keeps a m fit 0 (r .head) n (x .same))
+      (λ (x : IsAccepted a m room bytes r n). accepted-keeps a m room (stateIn bytes) (valuesIn (stateIn bytes)) (x .ready) (r .head) n (x .shows)) add-view
+
+-- ---- writing, and a run
+
+pub write-keeps : (a : Accumulator) (m : Mem) (room : ℕ) (out : List ℕ) (r : Written) (n : Mem) (after : List ℕ) → fits a m ≡ true → WritePost a m room out r n after
+    → fits a n ≡ true
+write-keeps a m room out r n after fit post = refused-keeps a m fit 0 a n (post .same)
+
+pub fresh-fits : (m : Mem) → fits fresh m ≡ true
+fresh-fits m = fit-none-back fresh m refl (record { no-kept = refl; no-waiting = refl })
+
+-- Each call of a run gets what fits, so that question 1 is answered with yes all along.
+pub run-fits : {room : ℕ} {first : Mem} {calls : List Call} {a : Accumulator} {m : Mem} → Run room first calls a m → fits a m ≡ true
+run-fits {first = m} begun = fresh-fits m
+run-fits {room} (adding {a = a} {m = m} bytes r n run post) = add-keeps a m room bytes r n (run-fits run) post
+run-fits {room} (writing {a = a} {m = m} out r n after run post) = write-keeps a m room out r n after (run-fits run) post
+
+-- Whatever the bytes are, the sparse precision of their state is a number of 32 bits.
+pub sparse-small : (bytes : List ℕ) → stateIn bytes .hll .sparsePrecision < 2 ^ 32
+unfolding stateIn
+sparse-small bytes = go (readState bytes) refl
+  where
+    go : (x : Read State) → readState bytes ≡ x → valueOr emptyState x .hll .sparsePrecision < 2 ^ 32
+    go (refused n) e = omega arith
+    go (got st l) e = sparse-precision-small bytes st l e
