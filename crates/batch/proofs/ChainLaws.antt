@@ -1,14 +1,14 @@
 -- Walking the chain of a batch: the walk so far is a run over the states so far, and what is left of the chain completes them. One law for the start,
 -- one for a turn, and one for each way that the walk ends.
-use Prim.Native.Nat.{ℕ, zero, suc, _+_, _<_, _≤_}
+use Prim.Native.Nat.{ℕ, zero, suc, _+_, _-_, _*_, _^_, _<_, _≤_}
 use mathlib.Core.Path.{_≡_, refl, sym, ap, ap₂, _∙_, subst}
 use mathlib.Core.List.{List, [], _∷_, _++_, append-assoc, append-nil}
 use mathlib.Core.Bool.{Bool, true, false, cond, _&&_}
 use native.Mathlib.Omega.{arith}
 use lib.Dec.{ltb, leb, eqb}
-use lib.ListN.{length, take, set, length-set, length-append}
+use lib.ListN.{length, getD, take, set, length-set, length-append}
 use lib.Seq.{take-suc-set, take-all, take-at, length-take-le}
-use borrow.Author.Tests.{leb-true, ltb-true, lt-ltb, le-leb, lt-leb, eq-eqb, ne-eqb}
+use borrow.Author.Tests.{leb-true, leb-false, ltb-true, lt-ltb, le-leb, lt-leb, eq-eqb, ne-eqb, eqb-true, eqb-false}
 use Rattle.lists.proofs.OrderLaws.{both-true, true-both}
 use Rattle.rollup.specs.declared.accumulator.Accumulator.{Accumulator}
 use Rattle.rollup.specs.declared.adding.Added.{Added}
@@ -40,11 +40,48 @@ record-inside b before i e =
       inside = leb-true (i + 8 + lengthAt b i) (length b) (x .1);
     }
 
-pub inside-record : (b : List ℕ) (before i : ℕ) → 4 ≤ i → before < i → i + 8 + lengthAt b i ≤ length b → isRecord b before i ≡ true
+-- The answers of the code's tests.
+pub no-record : (b : List ℕ) (before i : ℕ) → (Inside b before i → ⊥) → isRecord b before i ≡ false
+no-record b before i f = go (isRecord b before i) refl
+  where
+    go : (t : Bool) → isRecord b before i ≡ t → isRecord b before i ≡ false
+    go true e = absurd (f (record-inside b before i e))
+    go false e = e
+
+pub record-tested : (b : List ℕ) (before i n : ℕ) → 4 ≤ i → before < i → 8 ≤ length b → i ≤ length b - 8 → n ≡ lengthAt b i
+    → leb n (length b - 8 - i) ≡ isRecord b before i
 unfolding isRecord
-inside-record b before i h k l =
-    true-both (leb 4 i && ltb before i) (leb (i + 8 + lengthAt b i) (length b)) (true-both (leb 4 i) (ltb before i) (le-leb 4 i h) (lt-ltb before i k))
-    (le-leb (i + 8 + lengthAt b i) (length b) l)
+record-tested b before i n low above eight within e =
+    ap (λ (k : ℕ). leb k (length b - 8 - i)) e
+    ∙ go (leb (lengthAt b i) (length b - 8 - i)) refl
+    ∙ sym
+    (ap (λ (t : Bool). t && ltb before i && leb (i + 8 + lengthAt b i) (length b)) (le-leb 4 i low)
+    ∙ ap (λ (t : Bool). t && leb (i + 8 + lengthAt b i) (length b)) (lt-ltb before i above))
+  where
+    go : (t : Bool) → leb (lengthAt b i) (length b - 8 - i) ≡ t → leb (lengthAt b i) (length b - 8 - i) ≡ leb (i + 8 + lengthAt b i) (length b)
+    go true f =
+        let h = leb-true (lengthAt b i) (length b - 8 - i) f in
+        f ∙ sym (le-leb (i + 8 + lengthAt b i) (length b) (let g : i + 8 + lengthAt b i ≤ length b = omega arith in g))
+    go false f =
+        let h = leb-false (lengthAt b i) (length b - 8 - i) f in
+        f ∙ sym (lt-leb (i + 8 + lengthAt b i) (length b) (let g : length b < i + 8 + lengthAt b i = omega arith in g))
+
+pub too-short : (b : List ℕ) → length b < 4 → false ≡ isBatch b
+too-short b h = sym (ap (λ (t : Bool). t && leb (length b) 65536) (lt-leb 4 (length b) h))
+
+pub long-enough : (b : List ℕ) → 4 ≤ length b → leb (length b) 65536 ≡ isBatch b
+long-enough b h = sym (ap (λ (t : Bool). t && leb (length b) 65536) (le-leb 4 (length b) h))
+
+pub batch-size : (b : List ℕ) → isBatch b ≡ true → (4 ≤ length b) × (length b ≤ 65536)
+batch-size b e =
+    let x = both-true (leb 4 (length b)) (leb (length b) 65536) e in
+    (leb-true 4 (length b) (x .0), leb-true (length b) 65536 (x .1))
+
+-- Four bytes, low first.
+pub word-read : (b : List ℕ) (i v w x y : ℕ) → v ≡ getD b i 0 → w ≡ getD b (i + 1) 0 → x ≡ getD b (i + 2) 0 → y ≡ getD b (i + 3) 0 → v < 256 → w < 256
+    → x < 256 → y < 256 → (v + 256 * w + 65536 * x + 16777216 * y ≡ wordAt b i) × (v + 256 * w + 65536 * x + 16777216 * y < 2 ^ 32)
+unfolding wordAt
+word-read b i v w x y e f g h k l m n = ((let z : v + 256 * w + 65536 * x + 16777216 * y ≡ wordAt b i = omega arith in z), omega arith)
 
 -- ---- the chain from an index on
 
@@ -92,6 +129,14 @@ added-last [] (m ∷ answers) s n calls e = absurd (let z : ⊥ = omega arith in
 added-last (t ∷ states) [] s n calls e = absurd (let z : ⊥ = omega arith in z)
 added-last (t ∷ states) (m ∷ answers) s n calls e = added-last states answers s n (added t m ∷ calls) (let z : length states ≡ length answers = omega arith in z)
 
+-- There is a cell left.
+pub cell-left : (k n cells : ℕ) → k ≤ cells → (k ≡ n → ⊥) → n ≡ cells → k < cells
+cell-left k n cells h f e = go (eqb k cells) refl
+  where
+    go : (t : Bool) → eqb k cells ≡ t → k < cells
+    go true g = absurd (f (eqb-true k cells g ∙ sym e))
+    go false g = omega (arith, h, eqb-false k cells g)
+
 -- ---- the walk
 
 pub record Going (batch : List ℕ) (first : Mem) (room before at k : ℕ) (a : Accumulator) (m : Mem) (cells : ℕ) (answers : List ℕ) : Type 0 where
@@ -101,6 +146,7 @@ pub record Going (batch : List ℕ) (first : Mem) (room before at k : ℕ) (a : 
   pub within : before < length batch
   pub count : length done ≡ k
   pub few : k ≤ cells
+  pub early : k ≤ before
   pub long : length answers ≡ cells
   pub states : chainOf batch .states ≡ done ++ chainFrom left batch before at .states
   pub ending : chainOf batch .ending ≡ chainFrom left batch before at .ending
@@ -114,8 +160,7 @@ pub going-start : (batch : List ℕ) (m : Mem) (room at : ℕ) (a : Accumulator)
     → a ≡ fresh → length answers ≡ cells → Going batch m room 0 at 0 a m cells answers
 unfolding chainOf addedAll
 going-start batch m room at a cells answers ok e f l =
-    let size = both-true (leb 4 (length batch)) (leb (length batch) 65536) ok in
-    let four = leb-true 4 (length batch) (size .0) in
+    let size = batch-size batch ok in
     let all = chainFrom (length batch) batch 0 (wordAt batch 0) in
     let whole : chainOf batch ≡ chainFrom (length batch) batch 0 at =
     ap (λ (t : Bool). cond t all (ends 24)) ok ∙ ap (λ (i : ℕ). chainFrom (length batch) batch 0 i) (sym e) in
@@ -123,9 +168,10 @@ going-start batch m room at a cells answers ok e f l =
       left = length batch;
       done = [];
       enough = omega arith;
-      within = omega arith;
+      within = omega (arith, size .0);
       count = refl;
       few = omega arith;
+      early = omega arith;
       long = l;
       states = ap (λ (c : Chain). c .states) whole;
       ending = ap (λ (c : Chain). c .ending) whole;
@@ -211,6 +257,7 @@ module _ (batch : List ℕ) (first : Mem) (room before at k : ℕ) (a : Accumula
             within = omega (arith, i .inside);
             count = length-append (g .done) (stateAt batch at ∷ []) ∙ ap (λ (x : ℕ). x + 1) (g .count);
             few = omega arith;
+            early = omega (arith, g .early, i .above);
             long = length-set answers k (r .answer) ∙ g .long;
             states = more ∙ ap (λ (x : ℕ). (g .done ++ stateAt batch at ∷ []) ++ chainFrom (step .fewer) batch at x .states) (sym e);
             ending = g .ending ∙ ap (λ (c : Chain). c .ending) (step .same) ∙ ap (λ (x : ℕ). chainFrom (step .fewer) batch at x .ending) (sym e);
@@ -222,3 +269,20 @@ module _ (batch : List ℕ) (first : Mem) (room before at k : ℕ) (a : Accumula
                   pending = post .lengths .pending ∙ g .lengths .pending;
                 };
           }
+
+-- Bytes that are no batch: 24, and nothing is added.
+pub no-batch : (batch : List ℕ) (m : Mem) (room : ℕ) (a : Accumulator) (cells : ℕ) (answers : List ℕ) → isBatch batch ≡ false → a ≡ fresh
+    → RolledPost batch m room (record { head = a; records = 0; ending = Refused 24 }) m cells answers
+unfolding chainOf addedAll
+no-batch batch m room a cells answers e f =
+    let whole : chainOf batch ≡ ends 24 = ap (λ (t : Bool). cond t (chainFrom (length batch) batch 0 (wordAt batch 0)) (ends 24)) e in
+    let none : statesFor batch cells ≡ [] = ap (λ (c : Chain). take cells (c .states)) whole ∙ take-none cells in
+    record {
+      records = sym (ap length none);
+      ending = sym (ap (λ (c : Chain). endingFor c cells) whole ∙ ap (λ (t : Bool). cond t (Refused 24) Full) (le-leb 0 cells (omega arith)));
+      run = subst (λ (l : List (List ℕ)). Run room m (addedAll l (take 0 answers) []) a m) (sym none) (subst (λ (h : Accumulator). Run room m [] h m) (sym f) begun);
+      lengths = same-lengths m;
+    }
+  where
+    take-none : (n : ℕ) → take {A = List ℕ} n [] ≡ []
+    take-none n = take-all n [] (omega arith)

@@ -23,13 +23,19 @@ pub struct Rolled {
     pub ending: Ending,
 }
 
+fn wide(b: u8) -> usize
+    ensures { λ r. ⌜ (r ≡ b) × (r < 256) ⌝ }
+{
+    b as usize
+}
+
 // Four bytes, low first.
 fn word_at(batch: &[u8], at: usize) -> usize
     requires { ⌜ at + 4 ≤ length (now batch) ⌝ }
     ensures { λ r. ⌜ (r ≡ wordAt (now (batch .entry)) at) × (r < 2 ^ 32) ⌝ }
 {
-    let low = batch[at] as usize + 256 * batch[at + 1] as usize;
-    low + 65536 * batch[at + 2] as usize + 16777216 * batch[at + 3] as usize
+    let low = wide(batch[at]) + 256 * wide(batch[at + 1]);
+    low + 65536 * wide(batch[at + 2]) + 16777216 * wide(batch[at + 3])
 }
 
 // 25: "is each index at least 4 and above the one before, and the record inside?" No sum is made before its parts are known to be small.
