@@ -114,20 +114,17 @@ module _ (p s : ℕ) (bytes : List ℕ) (room : registerBytes p ≤ length bytes
   pub set-room : (l after : List ℕ) → after ≡ withRegisters p (raisedBy p s (zeros p) l) bytes → registerBytes p ≤ length after
   set-room l after e = over-room (raisedBy p s (zeros p) l) after (raised-size l) e
 
-  -- A list was set, a second one is set, and then a row of registers is taken in.
-  module _ (kept waiting row first second : List ℕ) (g : length row ≡ 2 ^ p) (e : first ≡ withRegisters p (raisedBy p s (zeros p) kept) bytes) where
-    module _ (f : second ≡ withRegisters p (raisedBy p s (registersOf p first) waiting) first) where
-      both-set : second ≡ withRegisters p (raisedBy p s (zeros p) (kept ++ waiting)) bytes
-      both-set =
-          set-over (raisedBy p s (zeros p) kept) first (raised-size kept) e waiting second f
-          ∙ ap (λ (x : List ℕ). withRegisters p x bytes) (sym (raised-append p s (zeros p) kept waiting))
+  -- A list was set, and a second one is set.
+  pub both-set : (kept waiting first second : List ℕ) → first ≡ withRegisters p (raisedBy p s (zeros p) kept) bytes
+      → second ≡ withRegisters p (raisedBy p s (registersOf p first) waiting) first → second ≡ withRegisters p (raisedBy p s (zeros p) (kept ++ waiting)) bytes
+  both-set kept waiting first second e f =
+      set-over (raisedBy p s (zeros p) kept) first (raised-size kept) e waiting second f
+      ∙ ap (λ (x : List ℕ). withRegisters p x bytes) (sym (raised-append p s (zeros p) kept waiting))
 
-      pub second-room : registerBytes p ≤ length second
-      second-room = over-room (raisedBy p s (zeros p) (kept ++ waiting)) second (raised-size (kept ++ waiting)) both-set
-
-      pub all-set : (after : List ℕ) → after ≡ withRegisters p (larger (registersOf p second) (registersOf p row)) second
-          → after ≡ withRegisters p (larger (raisedBy p s (zeros p) (kept ++ waiting)) row) bytes
-      all-set after h = max-over (raisedBy p s (zeros p) (kept ++ waiting)) second (raised-size (kept ++ waiting)) both-set row after g h
+  -- A list was set, and a row of registers is taken in.
+  pub row-over : (l row before after : List ℕ) → length row ≡ 2 ^ p → before ≡ withRegisters p (raisedBy p s (zeros p) l) bytes
+      → after ≡ withRegisters p (larger (registersOf p before) (registersOf p row)) before → after ≡ withRegisters p (larger (raisedBy p s (zeros p) l) row) bytes
+  row-over l row before after g e h = max-over (raisedBy p s (zeros p) l) before (raised-size l) e row after g h
 
 -- ---- after a merge
 

@@ -148,6 +148,13 @@ pub record MergeSparsePre (h : Accumulator) (registers sparse pending scratch : 
 
 -- ---- data
 
+-- Two lists that are to be set.
+pub record SetListsPre (enc : Encoding) (kept waiting bytes : List ℕ) : Type 0 where
+  pub fits : SparseFits enc
+  pub kept-valid : allValid (enc .«normal_precision») (enc .«sparse_precision») kept ≡ true
+  pub waiting-valid : allValid (enc .«normal_precision») (enc .«sparse_precision») waiting ≡ true
+  pub room : registerBytes (enc .«normal_precision») ≤ length bytes
+
 -- Two lists that can be set, and the registers of a state of the same precision.
 pub record DensifyPre (h : Accumulator) (registers kept waiting dense : List ℕ) : Type 0 where
   pub pair : Pair (h .precision) (h .«sparse_precision»)

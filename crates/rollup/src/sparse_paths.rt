@@ -15,7 +15,7 @@ ghost use Rattle.lists.specs.Registers.{withRegisters, zeros, raisedBy, larger,
 ghost use Rattle.rollup.specs.declared.accumulator.Form.the-variants.{Sparse as ListForm};
 ghost use Rattle.rollup.specs.Accumulator.{mem};
 ghost use Rattle.rollup.specs.Adding.{waits, sparseAfter, Ready, Shows};
-ghost use Rattle.rollup.specs.SparsePaths.{counted, listed, densed, settled, SettlePre, Leaves, WaitPre, ListReady, ListRoom, insertsNow, UnionPost, BackPre, JoinPre, mergedAfter, MergeSparsePre, DensifyPre};
+ghost use Rattle.rollup.specs.SparsePaths.{counted, listed, densed, settled, SettlePre, Leaves, WaitPre, ListReady, ListRoom, insertsNow, UnionPost, BackPre, JoinPre, mergedAfter, MergeSparsePre, SetListsPre, DensifyPre};
 use crate::accumulator::Accumulator;
 use crate::accumulator::Form;
 use crate::fitting;
@@ -90,6 +90,15 @@ fn set_list(registers: &mut [u8], enc: Sparse, list: &[u32])
     registers::set_registers(registers, enc, list);
 }
 
+// And those of two lists: of the values that are kept and those that wait.
+pub fn set_lists(registers: &mut [u8], enc: Sparse, kept: &[u32], waiting: &[u32])
+    requires { ⌜ SetListsPre enc (now kept) (now waiting) (now registers) ⌝ }
+    ensures { λ _. ⌜ now (registers .exit) ≡ withRegisters (enc .«normal_precision») (raisedBy (enc .«normal_precision») (enc .«sparse_precision») (zeros (enc .«normal_precision»)) (now (kept .entry) ++ now (waiting .entry))) (now (registers .entry)) ⌝ }
+{
+    set_list(registers, enc, kept);
+    registers::set_registers(registers, enc, waiting);
+}
+
 // After a merge: the list's numbers, or its registers where it has grown to the limit.
 fn settle(
     h: Accumulator,
@@ -121,8 +130,7 @@ fn densify_with(
     ensures { λ r. ⌜ (r ≡ densed h) × (now (registers .exit) ≡ withRegisters (h .precision) (larger (raisedBy (h .precision) (h .«sparse_precision») (zeros (h .precision)) (now (kept .entry) ++ now (waiting .entry))) (now (dense .entry))) (now (registers .entry))) ⌝ }
 {
     let enc = Sparse::new(h.precision, h.sparse_precision);
-    set_list(registers, enc, kept);
-    registers::set_registers(registers, enc, waiting);
+    set_lists(registers, enc, kept, waiting);
     registers::max_into(registers, dense, enc.normal_precision);
     densed(h)
 }
