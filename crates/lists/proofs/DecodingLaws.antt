@@ -675,6 +675,7 @@ gap-numbered l = go (varintOf 5 l)
     cut : (b : Bool) → 0 < cond b 18 19
     cut true = omega arith
     cut false = omega arith
+
     go : (r : Read ℕ) → Numbered (gapAnswer r)
     go (got v rest) = numbered-if (ltb v (2 ^ 32)) (got v rest) (refused 19) tt (omega arith)
     go (refused n) = cut (eqb n 3)

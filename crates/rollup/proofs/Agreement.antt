@@ -2,29 +2,27 @@
 -- agree with each other, whatever the order, the repeats, the refusals and the writes between were.
 use Prim.Native.Nat.{ℕ, _+_, _-_, _^_, _<_, _≤_, min}
 use mathlib.Core.Path.{_≡_, refl, sym, ap, ap₂, _∙_, subst}
-use mathlib.Core.Bool.{Bool, true, false, cond}
+use mathlib.Core.Bool.{Bool, cond}
 use mathlib.Core.Logic.{⊎-elim}
 use mathlib.Core.List.{List, [], _∷_, map, List·Memᴰ, List·Memᴰ·head, List·Memᴰ·tail, List·Memᴰ·cases-cons, List·Memᴰ·not-nil, Memᴰ·map, Memᴰ·of-map}
-use native.Mathlib.Nat.{min-le-left, min-le-right, le-refl, le-of-eq}
+use native.Mathlib.Nat.{min-le-left, min-le-right, le-of-eq}
 use native.Mathlib.Omega.{arith}
 use lib.Bits.{bitAnd}
-use lib.Dec.{eqb}
 use lib.ListN.{length}
 use borrow.Author.Tests.{eq-eqb, ne-eqb}
 use Rattle.wire.specs.State.{State}
 use Rattle.lists.specs.Values.{rank}
 use Rattle.lists.specs.Registers.{larger, lowered}
-use Rattle.lists.proofs.RankLaws.{larger-length, lowered-length, registers-larger, registers-twice}
+use Rattle.lists.proofs.RankLaws.{lowered-length, registers-larger, registers-twice}
 use Rattle.rollup.specs.declared.accumulator.Accumulator.{Accumulator}
 use Rattle.rollup.specs.declared.adding.Added.{Added}
-use Rattle.rollup.specs.Accumulator.{Mem, fresh, fits}
+use Rattle.rollup.specs.Accumulator.{Mem, fresh}
 use Rattle.rollup.specs.Header.{maskOf}
-use Rattle.rollup.specs.Adding.{signedMin, unchanged, isStarted, Shows, AddPost}
-use Rattle.rollup.specs.Writing.{WritePost}
-use Rattle.rollup.specs.Calls.{Call, added, wrote, Run, begun, adding, writing, accepted, stateIn, valuesIn, states, registersIn, over, smallestPrecision, smallestSparsePrecision, commonBits, largestRegisters, rollupRegisters, Answered, NoZeroRank, Agrees, DemandThree, SameStates, Alike, OrderFree}
+use Rattle.rollup.specs.Adding.{signedMin, unchanged, isStarted, Shows}
+use Rattle.rollup.specs.Calls.{Call, added, wrote, Run, begun, adding, writing, accepted, stateIn, valuesIn, states, registersIn, over, smallestPrecision, smallestSparsePrecision, commonBits, largestRegisters, rollupRegisters, Answered, NoZeroRank, DemandThree, OrderFree}
 use Rattle.rollup.proofs.ViewLaws.{IsRefused, IsAccepted, add-view, run-fits, sparse-small}
 use Rattle.rollup.proofs.AgreementLaws.{lowered-here, Took, same-registers, in-length, first-took, more-took}
-use Rattle.rollup.proofs.FoldLaws.{over-one, over-more, over-good, over-through, Joins, over-set, Any, min-joins, and-joins, Small, signed-joins, larger-joins}
+use Rattle.rollup.proofs.FoldLaws.{over-one, over-more, over-through, over-set, Any, min-joins, and-joins, Small, signed-joins, larger-joins}
 
 -- ---- one more state
 

@@ -180,8 +180,10 @@ key-min x y = go (ltb (signedKey y) (signedKey x)) refl
   where
     second : (a b : ℕ) → b < a → b ≡ min a b
     second a b h = omega arith
+
     first : (a b : ℕ) → a ≤ b → a ≡ min a b
     first a b h = omega arith
+
     go : (b : Bool) → ltb (signedKey y) (signedKey x) ≡ b → signedKey (cond b y x) ≡ min (signedKey x) (signedKey y)
     go true e = second (signedKey x) (signedKey y) (ltb-true (signedKey y) (signedKey x) e)
     go false e = first (signedKey x) (signedKey y) (ltb-false (signedKey y) (signedKey x) e)

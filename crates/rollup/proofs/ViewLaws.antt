@@ -8,7 +8,7 @@ use mathlib.Core.List.{List, []}
 use native.Mathlib.Omega.{arith}
 use lib.Dec.{leb, eqb}
 use lib.ListN.{length}
-use borrow.Author.Tests.{leb-true, eqb-false}
+use borrow.Author.Tests.{leb-true}
 use Rattle.wire.specs.Reading.{Read, got, refused, andThen}
 use Rattle.wire.specs.State.{State, emptyState, readState}
 use Rattle.wire.proofs.BoundLaws.{sparse-data-within, sparse-precision-small, read-number}
@@ -64,7 +64,9 @@ judge-got a bytes st rest = by-length (leb (length bytes) 2147483647) refl
           read = f ∙ ap (λ (x : State). got x more) (same .0);
           judged = subst (λ (x : State). judgeState a x ≡ got x []) (same .0) (same .1);
         }
-    by-length : (b : Bool) → leb (length bytes) 2147483647 ≡ b → cond b (andThen (readState bytes) (λ st nothing. judgeState a st)) (refused 2) ≡ got st rest → JudgedRead a bytes st
+
+    by-length : (b : Bool) → leb (length bytes) 2147483647 ≡ b
+        → cond b (andThen (readState bytes) (λ st nothing. judgeState a st)) (refused 2) ≡ got st rest → JudgedRead a bytes st
     by-length true l e = by-read (leb-true (length bytes) 2147483647 l) (readState bytes) refl e
     by-length false l e = absurd (let z : _≡_ {A = ℕ} 0 1 = cc in omega arith)
 
@@ -79,9 +81,11 @@ judge-number a bytes n = by-length (leb (length bytes) 2147483647)
     by-state st true true false f e = let z : 16 ≡ n = cc in omega arith
     by-state st true false c f e = let z : 15 ≡ n = cc in omega arith
     by-state st false m c f e = let z : headerAnswer st ≡ n = cc in let k = above (headerAnswer st) f in omega arith
+
     by-read : (x : Read State) → readState bytes ≡ x → andThen x (λ st nothing. judgeState a st) ≡ refused n → 0 < n
     by-read (refused k) f e = let z : k ≡ n = cc in let p = read-number bytes k f in omega arith
     by-read (got st more) f e = by-state st (eqb (headerAnswer st) 0) (masksMeet a st) (carried a st) refl e
+
     by-length : (b : Bool) → cond b (andThen (readState bytes) (λ st nothing. judgeState a st)) (refused 2) ≡ refused n → 0 < n
     by-length true e = by-read (readState bytes) refl e
     by-length false e = let z : 2 ≡ n = cc in omega arith
@@ -143,9 +147,11 @@ module _ (a : Accumulator) (m : Mem) (room : ℕ) (bytes : List ℕ) (r : Added)
             listed = whole;
             short = omega (arith, sparse-data-within bytes st (j .rest) (j .read), j .short);
           }) (add-accepted a m room bytes st rest fit f vs end h e)
+
       by-room : (st : State) (rest : List ℕ) → judge a bytes ≡ got st rest → (b : Bool) → hasRoom a m room st ≡ b → View
       by-room st rest f true h = by-list st rest f (judge-got a bytes st rest f) h (listedIn st) refl
       by-room st rest f false h = with-number 17 (omega arith) (add-full a m room bytes st rest fit f h)
+
       by-judge : (x : Read State) → judge a bytes ≡ x → View
       by-judge (refused k) e = with-number k (judge-number a bytes k e) (add-judged a m room bytes k fit e)
       by-judge (got st rest) e = by-room st rest e (hasRoom a m room st) refl
