@@ -1,9 +1,10 @@
 -- One call and what is compared by demand 3. A refusal and a write leave it as it was. An accepted state is one equation, whatever the roll-up's form:
 -- the precision, the sparse precision and the mask become the smaller ones and the common bits, and the registers the larger of the roll-up's and the
 -- state's, both lowered to the smaller precision.
-use Prim.Native.Nat.{ℕ, _+_, _-_, _^_, _<_, max, min}
+use Prim.Native.Nat.{ℕ, _+_, _-_, _^_, _<_, _≤_, max, min}
 use mathlib.Core.Path.{_≡_, refl, sym, ap, ap₂, _∙_, subst}
 use mathlib.Core.Bool.{Bool, true, false, cond, not}
+use mathlib.Core.Logic.{⊎-elim}
 use mathlib.Core.List.{List, [], _∷_, _++_, append-assoc, append-nil, List·Memᴰ}
 use native.Mathlib.Nat.{min-le-right, min-eq-left, le-of-eq}
 use native.Mathlib.Omega.{arith}
@@ -11,12 +12,13 @@ use lib.Dec.{ltb, eqb}
 use lib.ListN.{length, take, replicate, length-replicate}
 use borrow.Author.Tests.{eqb-true}
 use Rattle.wire.specs.State.{State}
+use Rattle.wire.proofs.VarintLaws.{side}
 use Rattle.lists.specs.Values.{Pair, rank}
 use Rattle.lists.specs.Lists.{allValid, written, merged}
 use Rattle.lists.specs.Registers.{registersOf, withRegisters, zeros, rankAt, raisedBy, raisedLower, larger, lowered}
 use Rattle.lists.proofs.MergeLaws.{merged-valid}
 use Rattle.lists.proofs.DecodingLaws.{Accepted, accepted}
-use Rattle.lists.proofs.RankLaws.{rank-append, rank-perm, rank-merged, raised-length, raised-append, raised-larger, raised-lowered, lower-larger, larger-length, lowered-length, registers-same, valid-inside, valid-inside-lower, row-raised, row-same}
+use Rattle.lists.proofs.RankLaws.{rank-append, rank-perm, rank-merged, raised-length, raised-append, raised-larger, raised-lowered, lower-none, lower-larger, larger-length, lowered-length, registers-same, valid-inside, valid-inside-lower, row-raised, row-same}
 use Rattle.lists.proofs.RegisterLaws.{of-with, of-front}
 use Rattle.rollup.specs.declared.accumulator.Form.{Form}
 use Rattle.rollup.specs.declared.accumulator.Form.the-variants.{Unstarted, Sparse, Dense}
@@ -388,7 +390,7 @@ module _ (a : Accumulator) (m : Mem) (room : ℕ) (st : State) (ready : Ready a 
 
     -- ---- a dense roll-up
 
-    module _ (dense : a .form ≡ Dense) (pos : (v : ℕ) → List·Memᴰ v vs → 0 < rank sp ss v) where
+    module _ (dense : a .form ≡ Dense) (pos : least < sp → (v : ℕ) → List·Memᴰ v vs → 0 < rank sp ss v) where
       fit-d : FitDense a m
       fit-d = fit-dense a m (ready .fit) dense
 
@@ -401,14 +403,23 @@ module _ (a : Accumulator) (m : Mem) (room : ℕ) (st : State) (ready : Ready a 
       split : sp ≡ least + (sp - least)
       split = omega (arith, min-le-right (a .precision) sp)
 
-      -- A list's values, each lowered, raise as its registers lowered do: here no value may have rank 0.
+      -- A list's values, each lowered, raise as its registers lowered do. Here no value may have rank 0, unless nothing is lowered.
       by-list : isEmpty (dataOf st) ≡ true → raisedLower sp ss (sp - least) low vs ≡ larger low (lowered (sp - least) least (registersIn st))
       by-list e =
           let pair = state-pair e in
+          let inside = valid-inside sp ss vs pair (list-in .all) in
+          let rows : registersIn st ≡ row sp ss vs = in-list e ∙ list-row sp ss pair vs (list-in .all) in
+          ⊎-elim
+          (λ (h : least < sp).
           lower-larger sp ss (sp - least) least low vs low-long (valid-inside-lower sp ss (sp - least) least vs split pair (list-in .all))
           ∙ ap (larger low)
-          (sym (raised-lowered sp ss (sp - least) least vs split (valid-inside sp ss vs pair (list-in .all)) pos)
-          ∙ ap (lowered (sp - least) least) (sym (in-list e ∙ list-row sp ss pair vs (list-in .all))))
+          (sym (raised-lowered sp ss (sp - least) least vs split inside (pos h)) ∙ ap (lowered (sp - least) least) (sym rows)))
+          (λ (h : sp ≤ least).
+          let same : least ≡ sp = omega (arith, min-le-right (a .precision) sp) in
+          ap (λ (d : ℕ). raisedLower sp ss d low vs) (let z : sp - least ≡ 0 = omega arith in z)
+          ∙ lower-none sp ss low vs
+          ∙ raised-larger sp ss low vs (low-long ∙ ap (λ (k : ℕ). 2 ^ k) same) inside
+          ∙ ap (larger low) (sym (lowered-here sp least (registersIn st) same in-length ∙ rows))) (side least sp)
 
       by-state : raisedByState least st vs low ≡ larger low (lowered (sp - least) least (registersIn st))
       by-state =
@@ -440,7 +451,8 @@ module _ (a : Accumulator) (m : Mem) (room : ℕ) (st : State) (ready : Ready a 
     pub first-took : a .form ≡ Unstarted → Shows (acceptedAfter (a .form) a m st vs) r n → Took sp ss (maskOf (st .valueType)) (registersIn st) r n
     first-took f sh = start-took f (subst (λ (g : Form). Shows (acceptedAfter g a m st vs) r n) f sh)
 
-    pub more-took : isStarted (a .form) ≡ true → ((v : ℕ) → List·Memᴰ v vs → 0 < rank sp ss v) → Shows (acceptedAfter (a .form) a m st vs) r n → More
+    pub more-took : isStarted (a .form) ≡ true → (least < sp → (v : ℕ) → List·Memᴰ v vs → 0 < rank sp ss v) → Shows (acceptedAfter (a .form) a m st vs) r n
+        → More
     more-took s pos = by-form (a .form) refl s
       where
         by-form : (f : Form) → a .form ≡ f → isStarted f ≡ true → Shows (acceptedAfter f a m st vs) r n → More
