@@ -2,29 +2,27 @@
 -- agree with each other, whatever the order, the repeats, the refusals and the writes between were.
 use Prim.Native.Nat.{ℕ, _+_, _-_, _^_, _<_, _≤_, min}
 use mathlib.Core.Path.{_≡_, refl, sym, ap, ap₂, _∙_, subst}
-use mathlib.Core.Bool.{Bool, true, false, cond}
+use mathlib.Core.Bool.{Bool, cond}
 use mathlib.Core.Logic.{⊎-elim}
 use mathlib.Core.List.{List, [], _∷_, map, List·Memᴰ, List·Memᴰ·head, List·Memᴰ·tail, List·Memᴰ·cases-cons, List·Memᴰ·not-nil, Memᴰ·map, Memᴰ·of-map}
-use native.Mathlib.Nat.{min-le-left, min-le-right, le-refl, le-of-eq}
+use native.Mathlib.Nat.{min-le-left, min-le-right, le-of-eq}
 use native.Mathlib.Omega.{arith}
 use lib.Bits.{bitAnd}
-use lib.Dec.{eqb}
 use lib.ListN.{length}
 use borrow.Author.Tests.{eq-eqb, ne-eqb}
 use Rattle.wire.specs.State.{State}
 use Rattle.lists.specs.Values.{rank}
 use Rattle.lists.specs.Registers.{larger, lowered}
-use Rattle.lists.proofs.RankLaws.{larger-length, lowered-length, registers-larger, registers-twice}
+use Rattle.lists.proofs.RankLaws.{lowered-length, registers-larger, registers-twice}
 use Rattle.rollup.specs.declared.accumulator.Accumulator.{Accumulator}
 use Rattle.rollup.specs.declared.adding.Added.{Added}
-use Rattle.rollup.specs.Accumulator.{Mem, fresh, fits}
+use Rattle.rollup.specs.Accumulator.{Mem, fresh}
 use Rattle.rollup.specs.Header.{maskOf}
-use Rattle.rollup.specs.Adding.{signedMin, unchanged, isStarted, Shows, AddPost}
-use Rattle.rollup.specs.Writing.{WritePost}
-use Rattle.rollup.specs.Calls.{Call, added, wrote, Run, begun, adding, writing, accepted, stateIn, valuesIn, states, registersIn, over, smallestPrecision, smallestSparsePrecision, commonBits, largestRegisters, rollupRegisters, Answered, NoZeroRank, Agrees, DemandThree, SameStates, Alike, OrderFree}
+use Rattle.rollup.specs.Adding.{signedMin, unchanged, isStarted, Shows}
+use Rattle.rollup.specs.Calls.{Call, added, wrote, Run, begun, adding, writing, accepted, stateIn, valuesIn, states, registersIn, over, smallestPrecision, smallestSparsePrecision, commonBits, largestRegisters, rollupRegisters, Answered, NoZeroRank, Agrees, DemandThree, OrderFree}
 use Rattle.rollup.proofs.ViewLaws.{IsRefused, IsAccepted, add-view, run-fits, sparse-small}
 use Rattle.rollup.proofs.AgreementLaws.{lowered-here, Took, same-registers, in-length, first-took, more-took}
-use Rattle.rollup.proofs.FoldLaws.{over-one, over-more, over-good, over-through, Joins, over-set, Any, min-joins, and-joins, Small, signed-joins, larger-joins}
+use Rattle.rollup.proofs.FoldLaws.{over-one, over-more, over-through, over-set, Any, min-joins, and-joins, Small, signed-joins, larger-joins}
 
 -- ---- one more state
 
@@ -63,6 +61,26 @@ lower-all q q′ h st sts low =
     ∙ registers-twice (p - q) (q - q′) q′ (registersIn s)
     ∙ ap (λ (d : ℕ). lowered d q′ (registersIn s)) (let e : p - q + (q - q′) ≡ p - q′ = omega arith in e))
 
+-- ---- the premise, where it is needed
+
+-- A state whose list is lowered, its precision being above the smallest, lists no value of rank 0.
+abbrev pub Ranked : List State → State → Type 0
+Ranked sts st =
+    smallestPrecision sts < st .hll .precision → (v : ℕ) → List·Memᴰ v (valuesIn st) → 0 < rank (st .hll .precision) (st .hll .sparsePrecision) v
+
+abbrev pub AllRanked : List State → Type 0
+AllRanked sts = (st : State) → List·Memᴰ st sts → Ranked sts st
+
+smallest-down : (st : State) (sts : List State) (s : State) → List·Memᴰ s sts → smallestPrecision (st ∷ sts) ≤ smallestPrecision sts
+smallest-down st [] s i = absurd (List·Memᴰ·not-nil i)
+smallest-down st (last ∷ sts) s i =
+    let e = over-more 0 min (λ (x : State). x .hll .precision) st last sts in
+    let h = min-le-left (smallestPrecision (last ∷ sts)) (st .hll .precision) in
+    omega arith
+
+fewer-ranked : (st : State) (sts : List State) → AllRanked (st ∷ sts) → AllRanked sts
+fewer-ranked st sts f s i h = f s (List·Memᴰ·tail i) (let d = smallest-down st sts s i in omega arith)
+
 -- ---- what holds all along
 
 abbrev Stands : List State → Accumulator → Mem → Type 0
@@ -90,7 +108,7 @@ module _ (room : ℕ) (bytes : List ℕ) (a : Accumulator) (m : Mem) (r : Added)
   abbrev p : ℕ
   p = st .hll .precision
 
-  grows : (sts : List State) → ((v : ℕ) → List·Memᴰ v (valuesIn st) → 0 < rank p (st .hll .sparsePrecision) v) → Stands sts a m → Stands (st ∷ sts) (r .head) n
+  grows : (sts : List State) → Ranked (st ∷ sts) st → Stands sts a m → Stands (st ∷ sts) (r .head) n
   unfolding largestRegisters
   grows [] pos e =
       let t = first-took a m room st (x .ready) (r .head) n (ap (λ (h : Accumulator). h .form) e) (x .shows) in
@@ -107,12 +125,12 @@ module _ (room : ℕ) (bytes : List ℕ) (a : Accumulator) (m : Mem) (r : Added)
             ∙ lowered-here p (smallestPrecision (st ∷ [])) (registersIn st) one (in-length a m room st (x .ready)));
       }
   grows (last ∷ sts) pos s =
-      let t = more-took a m room st (x .ready) (r .head) n (s .started) pos (x .shows) in
       let q = smallestPrecision (last ∷ sts) in
       let q′ = smallestPrecision (st ∷ last ∷ sts) in
       let next : q′ ≡ min q p = over-more 0 min (λ (s : State). s .hll .precision) st last sts in
       let down : q′ ≤ q = (let h = min-le-left q p in omega arith) in
       let same : min (a .precision) p ≡ q′ = ap (λ (k : ℕ). min k p) (s .precision) ∙ sym next in
+      let t = more-took a m room st (x .ready) (r .head) n (s .started) (λ (h : min (a .precision) p < p). pos (subst (λ (k : ℕ). k < p) same h)) (x .shows) in
       record {
         started = t .started;
         precision = t .precision ∙ same;
@@ -153,10 +171,9 @@ unfolding accepted
 accepted-wrote out n calls = refl
 
 abbrev Positive : List (List ℕ) → Type 0
-Positive bs = NoZeroRank (map stateIn bs)
+Positive bs = AllRanked (map stateIn bs)
 
-stands : {room : ℕ} {first : Mem} {calls : List Call} {a : Accumulator} {m : Mem} → Run room first calls a m → NoZeroRank (states calls) → Stands (states calls) a m
-unfolding NoZeroRank
+stands : {room : ℕ} {first : Mem} {calls : List Call} {a : Accumulator} {m : Mem} → Run room first calls a m → AllRanked (states calls) → Stands (states calls) a m
 stands {first = m} begun pos = subst (λ (bs : List (List ℕ)). Stands (map stateIn bs) fresh m) (sym accepted-none) refl
 stands {room} (adding {calls = calls} {a = a} {m = m} bytes r n run post) pos =
     ⊎-elim
@@ -169,7 +186,7 @@ stands {room} (adding {calls = calls} {a = a} {m = m} bytes r n run post) pos =
     let pos′ : Positive (bytes ∷ accepted calls) = subst Positive e pos in
     subst (λ (bs : List (List ℕ)). Stands (map stateIn bs) (r .head) n) (sym e)
     (grows room bytes a m r n x (states calls) (pos′ (stateIn bytes) (List·Memᴰ·head refl))
-    (stands run (λ (s : State) (i : List·Memᴰ s (states calls)). pos′ s (List·Memᴰ·tail i))))) (add-view a m room bytes r n (run-fits run) post)
+    (stands run (fewer-ranked (stateIn bytes) (states calls) pos′)))) (add-view a m room bytes r n (run-fits run) post)
 stands {room} (writing {calls = calls} {a = a} {m = m} out r n after run post) pos =
     let e = accepted-wrote out (r .answer) calls in
     subst (λ (bs : List (List ℕ)). Stands (map stateIn bs) a n) (sym e)
@@ -201,9 +218,9 @@ compared [] a m e =
     }
 compared (st ∷ sts) a m t = record { precision = t .precision; sparse-precision = t .sparse-precision; mask = t .mask; registers = t .registers }
 
-pub demand-three : DemandThree
-unfolding DemandThree
-demand-three room first calls a m run pos =
+-- The premise is asked only of states that are lowered: where all have one precision, of none.
+pub agrees : (room : ℕ) (first : Mem) (calls : List Call) (a : Accumulator) (m : Mem) (run : Run room first calls a m) → AllRanked (states calls) → Agrees room first calls a m run
+agrees room first calls a m run pos =
     let s = stands run pos in
     let c = compared (states calls) a m s in
     record {
@@ -214,6 +231,11 @@ demand-three room first calls a m run pos =
       mask = c .mask;
       registers = c .registers;
     }
+
+pub demand-three : DemandThree
+unfolding DemandThree NoZeroRank
+demand-three room first calls a m run pos =
+    agrees room first calls a m run (λ (s : State) (i : List·Memᴰ s (states calls)) (h : smallestPrecision (states calls) < s .hll .precision). pos s i)
 
 -- ---- the order is free
 

@@ -1,33 +1,35 @@
 -- One call and what is compared by demand 3. A refusal and a write leave it as it was. An accepted state is one equation, whatever the roll-up's form:
 -- the precision, the sparse precision and the mask become the smaller ones and the common bits, and the registers the larger of the roll-up's and the
 -- state's, both lowered to the smaller precision.
-use Prim.Native.Nat.{ℕ, zero, suc, _+_, _-_, _/_, _^_, _<_, _≤_, max, min}
+use Prim.Native.Nat.{ℕ, _+_, _-_, _^_, _<_, _≤_, max, min}
 use mathlib.Core.Path.{_≡_, refl, sym, ap, ap₂, _∙_, subst}
 use mathlib.Core.Bool.{Bool, true, false, cond, not}
-use mathlib.Core.List.{List, [], _∷_, _++_, append-assoc, append-nil, List·Permᴰ, List·Memᴰ}
-use native.Mathlib.Nat.{min-le-left, min-le-right, min-eq-left, le-of-eq}
+use mathlib.Core.Logic.{⊎-elim}
+use mathlib.Core.List.{List, [], _∷_, _++_, append-assoc, append-nil, List·Memᴰ}
+use native.Mathlib.Nat.{min-le-right, min-eq-left, le-of-eq}
 use native.Mathlib.Omega.{arith}
 use lib.Dec.{ltb, eqb}
 use lib.ListN.{length, take, replicate, length-replicate}
-use borrow.Author.Tests.{eqb-true, eqb-false}
+use borrow.Author.Tests.{eqb-true}
 use Rattle.wire.specs.State.{State}
-use Rattle.lists.specs.Values.{Pair, register, rank}
+use Rattle.wire.proofs.VarintLaws.{side}
+use Rattle.lists.specs.Values.{Pair, rank}
 use Rattle.lists.specs.Lists.{allValid, written, merged}
-use Rattle.lists.specs.Registers.{registerBytes, registersOf, withRegisters, zeros, rankAt, raisedBy, raisedLower, larger, lowered}
+use Rattle.lists.specs.Registers.{registersOf, withRegisters, zeros, rankAt, raisedBy, raisedLower, larger, lowered}
 use Rattle.lists.proofs.MergeLaws.{merged-valid}
 use Rattle.lists.proofs.DecodingLaws.{Accepted, accepted}
-use Rattle.lists.proofs.RankLaws.{rank-append, rank-perm, rank-merged, raised-length, raised-append, raised-larger, raised-lowered, lower-larger, lower-length, larger-length, lowered-length, registers-same, valid-inside, valid-inside-lower, row-raised, row-same}
-use Rattle.lists.proofs.RegisterLaws.{of-length, of-with, of-front}
+use Rattle.lists.proofs.RankLaws.{rank-append, rank-perm, rank-merged, raised-length, raised-append, raised-larger, raised-lowered, lower-none, lower-larger, larger-length, lowered-length, registers-same, valid-inside, valid-inside-lower, row-raised, row-same}
+use Rattle.lists.proofs.RegisterLaws.{of-with, of-front}
 use Rattle.rollup.specs.declared.accumulator.Form.{Form}
 use Rattle.rollup.specs.declared.accumulator.Form.the-variants.{Unstarted, Sparse, Dense}
 use Rattle.rollup.specs.declared.accumulator.Accumulator.{Accumulator}
 use Rattle.rollup.specs.Accumulator.{Mem, keptOf, waitingOf, limit}
 use Rattle.rollup.specs.Header.{dataOf, listOf, isEmpty, maskOf}
-use Rattle.rollup.specs.Adding.{After, unchanged, listHead, denseHead, commonMask, sumCount, startAfter, settle, waits, inserts, listAfter, sparseAfter, signedMin, signedKey, raisedByState, denseAfter, acceptedAfter, isStarted, wantedPrecision, Ready, Shows}
+use Rattle.rollup.specs.Adding.{After, unchanged, listHead, denseHead, commonMask, sumCount, startAfter, settle, waits, inserts, listAfter, sparseAfter, signedMin, signedKey, raisedByState, denseAfter, acceptedAfter, isStarted, Ready, Shows}
 use Rattle.rollup.specs.Calls.{valuesIn, listRegisters, registersIn, rollupRegisters}
 use Rattle.rollup.proofs.FitLaws.{FitSparse, FitDense, fit-sparse, fit-dense}
-use Rattle.rollup.proofs.JudgeLaws.{JudgedFacts, judged-facts, room-facts}
-use Rattle.rollup.proofs.KeepsLaws.{valid-append}
+use Rattle.rollup.proofs.JudgeLaws.{JudgedFacts, judged-facts, none-is}
+use Rattle.rollup.proofs.KeepsLaws.{valid-append, no-data, some-data, either, registers-room}
 
 -- ---- the registers of a list
 
@@ -134,27 +136,6 @@ module _ (x : After) (r : Accumulator) (n : Mem) (regs : List ℕ) (sh : Shows x
       → Took (x .head .precision) (x .head .«sparse_precision») (x .head .allowed) regs r n
   took-dense e g = with-form Dense e refl (left-dense x r n sh e ∙ g)
 
--- ---- small things
-
-no-bytes : (l : List ℕ) → isEmpty l ≡ true → length l ≡ 0
-no-bytes l e = eqb-true (length l) 0 e
-
-some-bytes : (l : List ℕ) → isEmpty l ≡ false → 0 < length l
-some-bytes l e = positive (length l) (eqb-false (length l) 0 e)
-  where
-    positive : (k : ℕ) → (k ≡ 0 → ⊥) → 0 < k
-    positive zero f = absurd (f refl)
-    positive (suc k) f = omega arith
-
-none-of : (l : List ℕ) → length l ≡ 0 → l ≡ []
-none-of [] e = refl
-none-of (x ∷ l) e = absurd (let z : ⊥ = omega arith in z)
-
--- A choice, each way.
-either : {A : Type 0} (P : A → Type 0) (b : Bool) (x y : A) → (b ≡ true → P x) → (b ≡ false → P y) → P (cond b x y)
-either P true x y f g = f refl
-either P false x y f g = g refl
-
 -- The smaller of two that are the same.
 signed-same : (x y : ℕ) → y ≡ x → signedMin x y ≡ x
 signed-same x y e = go (ltb (signedKey y) (signedKey x))
@@ -191,18 +172,14 @@ module _ (a : Accumulator) (m : Mem) (room : ℕ) (st : State) (ready : Ready a 
   in-list e = ap (λ (b : Bool). cond b (listRegisters sp ss vs) (dataOf st)) e
 
   state-pair : isEmpty (dataOf st) ≡ true → Pair sp ss
-  state-pair e = facts .pair (no-bytes (dataOf st) e)
+  state-pair e = facts .pair (no-data (dataOf st) e)
 
   pub in-length : length (registersIn st) ≡ 2 ^ sp
   unfolding registersIn
   in-length =
       either (λ (l : List ℕ). length l ≡ 2 ^ sp) (isEmpty (dataOf st)) (listRegisters sp ss vs) (dataOf st)
       (λ (e : isEmpty (dataOf st) ≡ true). list-length sp ss (state-pair e) vs (list-in .all))
-      (λ (e : isEmpty (dataOf st) ≡ false). facts .size (some-bytes (dataOf st) e))
-
-  registers-room : (f : Form) → a .form ≡ f → registerBytes (wantedPrecision f a st) ≤ length (m .registers)
-  registers-room f e =
-      subst (λ (g : Form). registerBytes (wantedPrecision g a st) ≤ length (m .registers)) e (room-facts a m room st (ready .space) .registers)
+      (λ (e : isEmpty (dataOf st) ≡ false). facts .size (some-data (dataOf st) e))
 
   module _ (r : Accumulator) (n : Mem) where
     -- ---- the first
@@ -230,7 +207,7 @@ module _ (a : Accumulator) (m : Mem) (room : ℕ) (st : State) (ready : Ready a 
         took-list asList r n (registersIn st) sh refl (ap (listRegisters sp ss) (append-nil vs) ∙ sym (in-list e)))
         (λ (e : isEmpty (dataOf st) ≡ false) (sh : Shows asDense r n).
         took-dense asDense r n (registersIn st) sh refl
-        (of-with sp (m .registers) (registers-room Unstarted f) (dataOf st) (facts .size (some-bytes (dataOf st) e)) ∙ sym (in-data e)))
+        (of-with sp (m .registers) (registers-room a m room st vs ready Unstarted f) (dataOf st) (facts .size (some-data (dataOf st) e)) ∙ sym (in-data e)))
 
     -- ---- one more, at a list roll-up: precisions are the same, so nothing is lowered
 
@@ -291,7 +268,7 @@ module _ (a : Accumulator) (m : Mem) (room : ℕ) (st : State) (ready : Ready a 
           took-list asList r n joint sh refl (ap (listRegisters ap′ as′) (append-nil l) ∙ g))
           (λ (e : ltb bytes (limit ap′) ≡ false) (sh : Shows asDense r n).
           took-dense asDense r n joint sh refl
-          (of-with ap′ (m .registers) (registers-room Sparse sparse) (row ap′ as′ l) (row-length ap′ as′ l)
+          (of-with ap′ (m .registers) (registers-room a m room st vs ready Sparse sparse) (row ap′ as′ l) (row-length ap′ as′ l)
           ∙ sym (list-row ap′ as′ (fit-s .pair) l ok)
           ∙ g))
 
@@ -370,13 +347,13 @@ module _ (a : Accumulator) (m : Mem) (room : ℕ) (st : State) (ready : Ready a 
           (λ (e : isEmpty (dataOf st) ≡ true).
           either P (isEmpty (listOf st)) same (listAfter a m st vs)
           (λ (f : isEmpty (listOf st) ≡ true) (sh : Shows same r n).
-          let none : vs ≡ [] = none-of vs (let z : length vs ≡ 0 = omega (arith, list-in .fewer, no-bytes (listOf st) f) in z) in
+          let none : vs ≡ [] = none-is vs (let z : length vs ≡ 0 = omega (arith, list-in .fewer, no-data (listOf st) f) in z) in
           took-list same r n joint sh refl
           (ap (listRegisters ap′ as′) (sym (append-nil own) ∙ ap (λ (l : List ℕ). own ++ l) (sym none)) ∙ with-values e))
           (λ (f : isEmpty (listOf st) ≡ false). list-took e))
           (λ (e : isEmpty (dataOf st) ≡ false) (sh : Shows asDense r n).
           took-dense asDense r n joint sh refl
-          (of-with ap′ (m .registers) (registers-room Sparse sparse) (larger (row ap′ as′ own) (dataOf st))
+          (of-with ap′ (m .registers) (registers-room a m room st vs ready Sparse sparse) (larger (row ap′ as′ own) (dataOf st))
           (larger-length (row ap′ as′ own) (dataOf st) ∙ row-length ap′ as′ own)
           ∙ ap₂ larger (sym (list-row ap′ as′ (fit-s .pair) own own-valid)) (sym (in-data e))))
 
@@ -413,7 +390,7 @@ module _ (a : Accumulator) (m : Mem) (room : ℕ) (st : State) (ready : Ready a 
 
     -- ---- a dense roll-up
 
-    module _ (dense : a .form ≡ Dense) (pos : (v : ℕ) → List·Memᴰ v vs → 0 < rank sp ss v) where
+    module _ (dense : a .form ≡ Dense) (pos : least < sp → (v : ℕ) → List·Memᴰ v vs → 0 < rank sp ss v) where
       fit-d : FitDense a m
       fit-d = fit-dense a m (ready .fit) dense
 
@@ -426,14 +403,23 @@ module _ (a : Accumulator) (m : Mem) (room : ℕ) (st : State) (ready : Ready a 
       split : sp ≡ least + (sp - least)
       split = omega (arith, min-le-right (a .precision) sp)
 
-      -- A list's values, each lowered, raise as its registers lowered do: here no value may have rank 0.
+      -- A list's values, each lowered, raise as its registers lowered do. Here no value may have rank 0, unless nothing is lowered.
       by-list : isEmpty (dataOf st) ≡ true → raisedLower sp ss (sp - least) low vs ≡ larger low (lowered (sp - least) least (registersIn st))
       by-list e =
           let pair = state-pair e in
+          let inside = valid-inside sp ss vs pair (list-in .all) in
+          let rows : registersIn st ≡ row sp ss vs = in-list e ∙ list-row sp ss pair vs (list-in .all) in
+          ⊎-elim
+          (λ (h : least < sp).
           lower-larger sp ss (sp - least) least low vs low-long (valid-inside-lower sp ss (sp - least) least vs split pair (list-in .all))
           ∙ ap (larger low)
-          (sym (raised-lowered sp ss (sp - least) least vs split (valid-inside sp ss vs pair (list-in .all)) pos)
-          ∙ ap (lowered (sp - least) least) (sym (in-list e ∙ list-row sp ss pair vs (list-in .all))))
+          (sym (raised-lowered sp ss (sp - least) least vs split inside (pos h)) ∙ ap (lowered (sp - least) least) (sym rows)))
+          (λ (h : sp ≤ least).
+          let same : least ≡ sp = omega (arith, min-le-right (a .precision) sp) in
+          ap (λ (d : ℕ). raisedLower sp ss d low vs) (let z : sp - least ≡ 0 = omega arith in z)
+          ∙ lower-none sp ss low vs
+          ∙ raised-larger sp ss low vs (low-long ∙ ap (λ (k : ℕ). 2 ^ k) same) inside
+          ∙ ap (larger low) (sym (lowered-here sp least (registersIn st) same in-length ∙ rows))) (side least sp)
 
       by-state : raisedByState least st vs low ≡ larger low (lowered (sp - least) least (registersIn st))
       by-state =
@@ -465,7 +451,8 @@ module _ (a : Accumulator) (m : Mem) (room : ℕ) (st : State) (ready : Ready a 
     pub first-took : a .form ≡ Unstarted → Shows (acceptedAfter (a .form) a m st vs) r n → Took sp ss (maskOf (st .valueType)) (registersIn st) r n
     first-took f sh = start-took f (subst (λ (g : Form). Shows (acceptedAfter g a m st vs) r n) f sh)
 
-    pub more-took : isStarted (a .form) ≡ true → ((v : ℕ) → List·Memᴰ v vs → 0 < rank sp ss v) → Shows (acceptedAfter (a .form) a m st vs) r n → More
+    pub more-took : isStarted (a .form) ≡ true → (least < sp → (v : ℕ) → List·Memᴰ v vs → 0 < rank sp ss v) → Shows (acceptedAfter (a .form) a m st vs) r n
+        → More
     more-took s pos = by-form (a .form) refl s
       where
         by-form : (f : Form) → a .form ≡ f → isStarted f ≡ true → Shows (acceptedAfter f a m st vs) r n → More

@@ -801,7 +801,7 @@ listed-pre a m room st e h =
     fewer zero k = omega arith
     fewer (suc n) k = let x = room-facts a m room st h .scratch (omega arith) in omega arith
 
-none-is : (l : List ℕ) → length l ≡ 0 → l ≡ []
+pub none-is : (l : List ℕ) → length l ≡ 0 → l ≡ []
 none-is [] e = refl
 none-is (x ∷ l) e = absurd (let z : ⊥ = omega arith in z)
 

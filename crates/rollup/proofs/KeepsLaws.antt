@@ -150,10 +150,10 @@ module _ (p s : ℕ) (l : List ℕ) (pair : Pair p s) (ok : allValid p s l ≡ t
 
 -- ---- what is known where a path begins
 
-no-data : (l : List ℕ) → isEmpty l ≡ true → length l ≡ 0
+pub no-data : (l : List ℕ) → isEmpty l ≡ true → length l ≡ 0
 no-data l e = eqb-true (length l) 0 e
 
-some-data : (l : List ℕ) → isEmpty l ≡ false → 0 < length l
+pub some-data : (l : List ℕ) → isEmpty l ≡ false → 0 < length l
 some-data l e = positive (length l) (eqb-false (length l) 0 e)
   where
     positive : (k : ℕ) → (k ≡ 0 → ⊥) → 0 < k
@@ -161,7 +161,7 @@ some-data l e = positive (length l) (eqb-false (length l) 0 e)
     positive (suc k) f = omega arith
 
 -- A choice, each way.
-either : {A : Type 0} (P : A → Type 0) (b : Bool) (x y : A) → (b ≡ true → P x) → (b ≡ false → P y) → P (cond b x y)
+pub either : {A : Type 0} (P : A → Type 0) (b : Bool) (x y : A) → (b ≡ true → P x) → (b ≡ false → P y) → P (cond b x y)
 either P true x y f g = f refl
 either P false x y f g = g refl
 
@@ -172,7 +172,7 @@ module _ (a : Accumulator) (m : Mem) (room : ℕ) (st : State) (vs : List ℕ) (
   list-in : Accepted (st .hll .precision) (st .hll .sparsePrecision) (listOf st) vs []
   list-in = accepted (st .hll .precision) (st .hll .sparsePrecision) (listOf st) (ready .listed)
 
-  registers-room : (f : Form) → a .form ≡ f → registerBytes (wantedPrecision f a st) ≤ length (m .registers)
+  pub registers-room : (f : Form) → a .form ≡ f → registerBytes (wantedPrecision f a st) ≤ length (m .registers)
   unfolding hasRoom
   registers-room f e =
       let w = leb (registerBytes (wantedPrecision (a .form) a st)) (length (m .registers)) in

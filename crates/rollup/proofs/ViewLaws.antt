@@ -8,7 +8,7 @@ use mathlib.Core.List.{List, []}
 use native.Mathlib.Omega.{arith}
 use lib.Dec.{leb, eqb}
 use lib.ListN.{length}
-use borrow.Author.Tests.{leb-true, eqb-false}
+use borrow.Author.Tests.{leb-true}
 use Rattle.wire.specs.Reading.{Read, got, refused, andThen}
 use Rattle.wire.specs.State.{State, emptyState, readState}
 use Rattle.wire.proofs.BoundLaws.{sparse-data-within, sparse-precision-small, read-number}
@@ -65,7 +65,8 @@ judge-got a bytes st rest = by-length (leb (length bytes) 2147483647) refl
           judged = subst (λ (x : State). judgeState a x ≡ got x []) (same .0) (same .1);
         }
 
-    by-length : (b : Bool) → leb (length bytes) 2147483647 ≡ b → cond b (andThen (readState bytes) (λ st nothing. judgeState a st)) (refused 2) ≡ got st rest → JudgedRead a bytes st
+    by-length : (b : Bool) → leb (length bytes) 2147483647 ≡ b
+        → cond b (andThen (readState bytes) (λ st nothing. judgeState a st)) (refused 2) ≡ got st rest → JudgedRead a bytes st
     by-length true l e = by-read (leb-true (length bytes) 2147483647 l) (readState bytes) refl e
     by-length false l e = absurd (let z : _≡_ {A = ℕ} 0 1 = cc in omega arith)
 

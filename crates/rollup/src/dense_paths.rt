@@ -62,7 +62,7 @@ fn first_dense(f: Fields) -> Accumulator
 
 // "The first state sets the head. Its list goes to kept, repeats included, and kept bytes is its field's length, L unchecked." `bytes` are those
 // that `f` was read from, `values` those of its list.
-pub fn start(
+pub(crate) fn start(
     f: Fields,
     bytes: &[u8],
     registers: &mut [u8],
@@ -167,7 +167,7 @@ fn dense_head(a: Accumulator, f: Fields, q: u32) -> Accumulator
 }
 
 // A state at a dense roll-up. `bytes` are those that `f` was read from, `values` those of its list.
-pub fn accept_dense(
+pub(crate) fn accept_dense(
     a: Accumulator,
     f: Fields,
     bytes: &[u8],

@@ -55,7 +55,7 @@ fn ranges_fit(p: u32, s: u32) -> bool
 }
 
 // The number of bytes from which on a list turns dense.
-pub fn size_limit(p: u32) -> usize
+pub(crate) fn size_limit(p: u32) -> usize
     requires { ⌜ (4 ≤ p) × (p ≤ 24) ⌝ }
     ensures { λ r. ⌜ (r ≡ limit p) × (r ≤ 12582912) ⌝ }
 {

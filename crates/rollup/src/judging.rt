@@ -174,7 +174,7 @@ fn takes(cells: usize, kept: usize, waiting: usize, new: usize) -> bool
 }
 
 // 17. `bytes` are those that `f` was read from.
-pub fn has_room(
+pub(crate) fn has_room(
     a: Accumulator,
     f: Fields,
     bytes: &[u8],
@@ -204,7 +204,7 @@ pub fn has_room(
 }
 
 // 18 to 20: the list's values, into `scratch`. A state without list bytes has no values, and its s may be one that no list can have.
-pub fn decode_listed(bytes: &[u8], f: Fields, scratch: &mut [u32]) -> Decoded
+pub(crate) fn decode_listed(bytes: &[u8], f: Fields, scratch: &mut [u32]) -> Decoded
     requires { ⌜ ListedPre (stateOf (now bytes) f) (length (now scratch)) ⌝ }
     ensures { λ r. ⌜ Decodes (listedIn (stateOf (now (bytes .entry)) f)) r (now (scratch .exit)) ⌝ }
 {

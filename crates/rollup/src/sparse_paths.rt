@@ -261,7 +261,7 @@ fn merge_sparse(
 }
 
 // A state at a list roll-up. Data turns it dense; without list or data bytes nothing but the mask and the count changes.
-pub fn accept_sparse(
+pub(crate) fn accept_sparse(
     a: Accumulator,
     f: Fields,
     bytes: &[u8],
