@@ -1,26 +1,26 @@
 -- Laws of the distinct sparse indices of a list in order: plain values and marked ones, each with indices that ascend, side by side.
 use mathlib.Core.Path.{_≡_, refl, sym, ap, ap₂, _∙_, subst}
-use mathlib.Core.List.{List, [], _∷_, _++_}
+use mathlib.Core.List.{List, [], _∷_, _++_, List·Permᴰ, List·Permᴰ·nil, List·Permᴰ·cons, List·Permᴰ·swap, List·Permᴰ·trans}
 use mathlib.Core.Bool.{Bool, true, false, cond, _||_}
 use mathlib.Core.Logic.{_⊎_, ⊎-elim}
-use Prim.Native.Nat.{ℕ, zero, suc, _+_, _-_, _*_, _/_, _<_, _≤_}
+use Prim.Native.Nat.{ℕ, zero, suc, _+_, _-_, _*_, _/_, _^_, _<_, _≤_}
 use native.Mathlib.Omega.{arith}
 use native.Mathlib.Nat.{mul-lt-mul-of-pos-right}
 use lib.Dec.{eqb, leb}
 use lib.ListN.{length, drop, take, getD, drop-of-length-le, length-drop, take-append-drop}
 use lib.Seq.{drop-cons, slice, slice-cons, length-take-le, getD-take, getD-drop}
 use lib.Pow.{pow-pos}
-use borrow.Author.Tests.{eq-eqb, ne-eqb, eqb-false, le-leb, lt-leb}
+use borrow.Author.Tests.{eq-eqb, ne-eqb, eqb-true, eqb-false, le-leb, lt-leb}
 use Rattle.wire.proofs.VarintLaws.{side}
 use Rattle.lists.specs.declared.values.Sparse.{Sparse}
-use Rattle.lists.specs.Values.{mark, valid, sparseIndex}
-use Rattle.lists.specs.Sorting.{ascends}
-use Rattle.lists.specs.Lists.{allValid, slot, distinctSlots, indexIn, distinctIndices, IndexPre}
+use Rattle.lists.specs.Values.{mark, marked, valid, sparseIndex}
+use Rattle.lists.specs.Sorting.{ascends, sortOf}
+use Rattle.lists.specs.Lists.{allValid, slot, sameSlotFirst, lastOfSlots, merged, distinctSlots, indexIn, distinctIndices, IndexPre}
 use Rattle.lists.specs.Order.{Ascending, Below, Least}
 use Rattle.lists.specs.Merging.{Splits}
 use Rattle.lists.proofs.ValueLaws.{decided, mark-64, below-mark, sparse-plain, sparse-marked}
-use Rattle.lists.proofs.OrderLaws.{both-true, ascending, ascending-take, ascending-drop}
-use Rattle.lists.proofs.MergeLaws.{valid-from-mark, slot-marked}
+use Rattle.lists.proofs.OrderLaws.{both-true, ascending, ascending-take, ascending-drop, perm-sort}
+use Rattle.lists.proofs.MergeLaws.{valid-from-mark, slot-marked, slot-plain, slot-group, mark-groups, marked-group, last-same, last-apart}
 use Rattle.lists.proofs.InsertLaws.{distinct-head, distinct-take, distinct-drop}
 
 module _ (p s : ℕ) where
@@ -353,3 +353,135 @@ pub walk-start : (enc : Sparse) (l : List ℕ) (flag m : ℕ) → IndexPre enc l
     → Splits l flag m → Walking (enc .«normal_precision») (enc .«sparse_precision») l m 0 m 0
 walk-start enc l flag m q f parts =
     walk-in (enc .«normal_precision») (enc .«sparse_precision») l m (q .rises) (q .allowed) (q .distinct) (subst (λ (n : ℕ). Splits l n m) f parts)
+
+-- ---- the indices of a merge
+
+module _ (p s : ℕ) where
+  -- Values of one slot have one index.
+  slot-index : (v w : ℕ) → slot p s v ≡ slot p s w → sparseIndex p s v ≡ sparseIndex p s w
+  slot-index v w e =
+      let g : v / 64 ≡ w / 64 = omega (arith, slot-group p s v .0, slot-group p s v .1, slot-group p s w .0, slot-group p s w .1) in
+      ⊎-elim
+      (λ (f : marked p s v ≡ true).
+      sparse-marked p s v f
+      ∙ ap (λ (k : ℕ). k * 2 ^ (s - p))
+      (let h : (v - mark p s) / 64 ≡ (w - mark p s) / 64 = omega (arith, mark-groups p s) in h)
+      ∙ sym (sparse-marked p s w (sym (marked-group p s v w g) ∙ f)))
+      (λ (f : marked p s v ≡ false).
+      let h = sym (marked-group p s v w g) ∙ f in
+      sparse-plain p s v f ∙ sym (slot-plain p s v f) ∙ e ∙ slot-plain p s w h ∙ sym (sparse-plain p s w h))
+      (decided (marked p s v))
+
+  -- An index of which one value goes and another stays is as it was.
+  twice : (a b t : Bool) → a ≡ b → (a || (b || t)) ≡ (b || t)
+  twice true b t e = ap (λ (x : Bool). x || t) e
+  twice false b t e = refl
+
+  index-last : (v : ℕ) (l : List ℕ) → indexIn p s v (lastOfSlots p s l) ≡ indexIn p s v l
+  unfolding lastOfSlots
+  index-last v [] = refl
+  index-last v (x ∷ []) = refl
+  index-last v (x ∷ y ∷ l) =
+      ⊎-elim
+      (λ (h : sameSlotFirst p s x (y ∷ l) ≡ true).
+      ap (indexIn p s v) (last-same p s x (y ∷ l) h)
+      ∙ index-last v (y ∷ l)
+      ∙ sym
+      (twice (eqb (sparseIndex p s v) (sparseIndex p s x)) (eqb (sparseIndex p s v) (sparseIndex p s y)) (indexIn p s v l)
+      (ap (eqb (sparseIndex p s v)) (slot-index x y (eqb-true (slot p s x) (slot p s y) h)))))
+      (λ (h : sameSlotFirst p s x (y ∷ l) ≡ false).
+      ap (indexIn p s v) (last-apart p s x (y ∷ l) h)
+      ∙ ap (λ (t : Bool). eqb (sparseIndex p s v) (sparseIndex p s x) || t) (index-last v (y ∷ l)))
+      (decided (sameSlotFirst p s x (y ∷ l)))
+
+  -- Whether the index is among the others decides.
+  pub index-cons : (v : ℕ) (l : List ℕ) → distinctIndices p s (v ∷ l) ≡ cond (indexIn p s v l) (distinctIndices p s l) (1 + distinctIndices p s l)
+  unfolding distinctIndices
+  index-cons v l = refl
+
+  distinct-last-of : (l : List ℕ) → distinctIndices p s (lastOfSlots p s l) ≡ distinctIndices p s l
+  unfolding lastOfSlots
+  distinct-last-of [] = refl
+  distinct-last-of (x ∷ []) = refl
+  distinct-last-of (x ∷ y ∷ l) =
+      ⊎-elim
+      (λ (h : sameSlotFirst p s x (y ∷ l) ≡ true).
+      ap (distinctIndices p s) (last-same p s x (y ∷ l) h)
+      ∙ distinct-last-of (y ∷ l)
+      ∙ sym
+      (index-there p s x (y ∷ l)
+      (ap (λ (t : Bool). t || indexIn p s x l)
+      (eq-eqb (sparseIndex p s x) (sparseIndex p s y) (slot-index x y (eqb-true (slot p s x) (slot p s y) h))))))
+      (λ (h : sameSlotFirst p s x (y ∷ l) ≡ false).
+      ap (distinctIndices p s) (last-apart p s x (y ∷ l) h)
+      ∙ index-cons x (lastOfSlots p s (y ∷ l))
+      ∙ ap₂ (λ (t : Bool) (k : ℕ). cond t k (1 + k)) (index-last x (y ∷ l)) (distinct-last-of (y ∷ l))
+      ∙ sym (index-cons x (y ∷ l)))
+      (decided (sameSlotFirst p s x (y ∷ l)))
+
+  -- The order of the values has no part in it.
+  swap-or : (a b t : Bool) → (a || (b || t)) ≡ (b || (a || t))
+  swap-or true true t = refl
+  swap-or true false t = refl
+  swap-or false b t = refl
+
+  index-perm : (v : ℕ) {a b : List ℕ} → List·Permᴰ a b → indexIn p s v a ≡ indexIn p s v b
+  index-perm v List·Permᴰ·nil = refl
+  index-perm v (List·Permᴰ·cons e d) = ap₂ (λ (x : ℕ) (t : Bool). eqb (sparseIndex p s v) (sparseIndex p s x) || t) e (index-perm v d)
+  index-perm v (List·Permᴰ·swap {a = a} {b = b} {l = l} e f) =
+      swap-or (eqb (sparseIndex p s v) (sparseIndex p s a)) (eqb (sparseIndex p s v) (sparseIndex p s b)) (indexIn p s v l)
+      ∙ ap₂ (λ (x y : ℕ). eqb (sparseIndex p s v) (sparseIndex p s x) || (eqb (sparseIndex p s v) (sparseIndex p s y) || indexIn p s v l)) f e
+  index-perm v (List·Permᴰ·trans d f) = index-perm v d ∙ index-perm v f
+
+  -- The number of a list's indices and of two more values, of which i and j tell whether their index is there, and e whether they have one index.
+  both-counted : (i j e : Bool) (k : ℕ) → (e ≡ true → i ≡ j)
+      → cond (e || i) (cond j k (1 + k)) (1 + cond j k (1 + k)) ≡ cond (e || j) (cond i k (1 + k)) (1 + cond i k (1 + k))
+  both-counted i j true k f = ap (λ (t : Bool). cond t k (1 + k)) (sym (f refl))
+  both-counted true true false k f = refl
+  both-counted true false false k f = refl
+  both-counted false true false k f = refl
+  both-counted false false false k f = refl
+
+  same-index : (v w : ℕ) (l : List ℕ) → sparseIndex p s v ≡ sparseIndex p s w → indexIn p s v l ≡ indexIn p s w l
+  same-index v w [] e = refl
+  same-index v w (x ∷ l) e = ap₂ (λ (n : ℕ) (t : Bool). eqb n (sparseIndex p s x) || t) e (same-index v w l e)
+
+  eqb-swap : (m n : ℕ) → eqb m n ≡ eqb n m
+  eqb-swap m n =
+      ⊎-elim (λ (e : eqb m n ≡ true). e ∙ sym (eq-eqb n m (sym (eqb-true m n e))))
+      (λ (e : eqb m n ≡ false). e ∙ sym (ne-eqb n m (λ (f : n ≡ m). eqb-false m n e (sym f)))) (decided (eqb m n))
+
+  distinct-swap : (x y : ℕ) (l : List ℕ) → distinctIndices p s (x ∷ y ∷ l) ≡ distinctIndices p s (y ∷ x ∷ l)
+  distinct-swap x y l =
+      let i = sparseIndex p s x in
+      let j = sparseIndex p s y in
+      let k = distinctIndices p s l in
+      index-cons x (y ∷ l)
+      ∙ ap (λ (n : ℕ). cond (eqb i j || indexIn p s x l) n (1 + n)) (index-cons y l)
+      ∙ both-counted (indexIn p s x l) (indexIn p s y l) (eqb i j) k (λ (e : eqb i j ≡ true). same-index x y l (eqb-true i j e))
+      ∙ ap₂ (λ (t : Bool) (n : ℕ). cond (t || indexIn p s y l) n (1 + n)) (eqb-swap i j) (sym (index-cons x l))
+      ∙ sym (index-cons y (x ∷ l))
+
+  pub distinct-perm : {a b : List ℕ} → List·Permᴰ a b → distinctIndices p s a ≡ distinctIndices p s b
+  distinct-perm List·Permᴰ·nil = refl
+  distinct-perm (List·Permᴰ·cons {a = a} {b = b} {l₁ = l} {l₂ = k} e d) =
+      index-cons a l
+      ∙ ap₂ (λ (t : Bool) (n : ℕ). cond t n (1 + n)) (index-perm a d) (distinct-perm d)
+      ∙ sym (index-cons a k)
+      ∙ ap (λ (x : ℕ). distinctIndices p s (x ∷ k)) e
+  distinct-perm (List·Permᴰ·swap {a = a} {b = b} {l = l} e f) =
+      distinct-swap a b l ∙ ap₂ (λ (x y : ℕ). distinctIndices p s (x ∷ y ∷ l)) f e
+  distinct-perm (List·Permᴰ·trans d f) = distinct-perm d ∙ distinct-perm f
+
+  -- A merge has the indices of both lists.
+  pub distinct-merged : (a b : List ℕ) → distinctIndices p s (merged p s a b) ≡ distinctIndices p s (a ++ b)
+  unfolding merged
+  distinct-merged a b = distinct-last-of (sortOf (a ++ b)) ∙ distinct-perm (perm-sort (a ++ b))
+
+  -- They are no more than the values.
+  pub distinct-le : (l : List ℕ) → distinctIndices p s l ≤ length l
+  unfolding distinctIndices
+  distinct-le [] = omega arith
+  distinct-le (v ∷ l) =
+      ⊎-elim (λ (e : indexIn p s v l ≡ true). omega (arith, index-there p s v l e, distinct-le l))
+      (λ (e : indexIn p s v l ≡ false). omega (arith, index-new p s v l e, distinct-le l)) (decided (indexIn p s v l))

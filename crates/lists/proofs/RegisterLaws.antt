@@ -59,6 +59,11 @@ pub row-registers : (p : ℕ) (row : List ℕ) → length row ≡ 2 ^ p → regi
 unfolding registersOf
 row-registers p row e = take-all (2 ^ p) row (let h : length row ≤ 2 ^ p = omega arith in h)
 
+-- A byte a register: the bytes that hold them are a state's data.
+pub registers-are : (p : ℕ) (bytes : List ℕ) → registersOf p bytes ≡ take (registerBytes p) bytes
+unfolding registersOf registerBytes
+registers-are p bytes = refl
+
 -- Registers of a lower precision take fewer bytes, and lie in front.
 pub fewer-bytes : (q p : ℕ) → q ≤ p → registerBytes q ≤ registerBytes p
 unfolding registerBytes

@@ -12,7 +12,8 @@ use lib.Bits.{bitAnd}
 use borrow.Author.Tests.{leb-true, le-leb, lt-leb, eqb-true, eq-eqb, ne-eqb, not-true, not-false}
 use Rattle.wire.specs.Reading.{Read, got, refused, andThen}
 use Rattle.wire.proofs.VarintLaws.{side}
-use Rattle.wire.specs.State.{State, bytesOrNone, stateOf, readState, whenPresent, HllInside, parsedMeans, ParsePost}
+use Rattle.wire.specs.State.{HllState, State, bytesOrNone, stateOf, readState, whenPresent, HllInside, parsedMeans, ParsePost}
+use Rattle.wire.specs.Encoding.{CutReading, cut-refused, cut-before-hll}
 use Rattle.wire.specs.declared.state.Fields.{Fields}
 use Rattle.wire.specs.declared.state.Parsed.{Parsed}
 use Rattle.wire.specs.declared.state.Parsed.the-variants.{Read as StateRead, Refused as StateRefused}
@@ -819,3 +820,37 @@ module _ (st : State) (d out : List ℕ) (same : d ≡ listOf st) where
       subst (λ (v : Read (List ℕ)). Decodes v r out)
       (ap (λ (p : ℕ). decodeOf p (enc .«sparse_precision») d) (n .normal) ∙ ap (λ (s : ℕ). decodeOf (st .hll .precision) s d) (n .sparse)
       ∙ ap (decodeOf (st .hll .precision) (st .hll .sparsePrecision)) same) x
+
+-- ---- a state that is cut off
+
+-- An answer is a number above 0.
+pub record Refuses {A : Type 0} (x : Read A) : Type 0 where
+  pub number : ℕ
+  pub above : 0 < number
+  pub is : x ≡ refused number
+
+-- A precision below 4 is refused by 11, if no question before does.
+low-refused : (a : Accumulator) (st : State) → st .hll .precision < 4 → Refuses (judgeState a st)
+unfolding judgeState
+low-refused a st h = pick (eqb (headerAnswer st) 0) refl
+  where
+    pick : (b : Bool) → eqb (headerAnswer st) 0 ≡ b
+        → Refuses (cond b (cond (masksMeet a st) (cond (carried a st) (got st []) (refused 16)) (refused 15)) (refused (headerAnswer st)))
+    pick true e =
+        let p = st .hll .precision in
+        let y = header-yes st (eqb-true (headerAnswer st) 0 e) in
+        absurd (let z : ⊥ = omega (arith, leb-true 4 p (and-left (leb 4 p) (leb p 24) (y .normal))) in z)
+    pick false e = record { number = headerAnswer st; above = above-zero (headerAnswer st) (ap not e); is = refl }
+
+cut-refused-then : (a : Accumulator) (r : Read State) → CutReading r → Refuses (andThen r (λ st nothing. judgeState a st))
+cut-refused-then a r cut-refused = record { number = 3; above = omega arith; is = refl }
+cut-refused-then a r (cut-before-hll st f) =
+    low-refused a st (subst (λ (h : HllState). h .precision < 4) (sym f) (let z : 0 < 4 = omega arith in z))
+
+pub cut-judged : (a : Accumulator) (s : List ℕ) → CutReading (readState s) → Refuses (judge a s)
+unfolding judge
+cut-judged a s c = pick (leb (length s) 2147483647)
+  where
+    pick : (b : Bool) → Refuses (cond b (andThen (readState s) (λ st nothing. judgeState a st)) (refused 2))
+    pick true = cut-refused-then a (readState s) c
+    pick false = record { number = 2; above = omega arith; is = refl }

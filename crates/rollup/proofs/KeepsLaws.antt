@@ -1,4 +1,4 @@
--- Every path, and every refusal, leaves what fits, where what it began with fits: after it question 1 is answered with yes again.
+-- Every path, every refusal and every write leaves what fits, where what it began with fits: after it question 1 is answered with yes again.
 use Prim.Native.Nat.{ℕ, zero, suc, _+_, _-_, _*_, _/_, _^_, _<_, _≤_, min}
 use mathlib.Core.Path.{_≡_, refl, sym, ap, _∙_, subst}
 use mathlib.Core.Bool.{Bool, true, false, cond, _&&_, not}
@@ -27,6 +27,8 @@ use Rattle.rollup.specs.declared.accumulator.Accumulator.{Accumulator}
 use Rattle.rollup.specs.Accumulator.{Mem, keptOf, waitingOf, limit, fits}
 use Rattle.rollup.specs.Header.{dataOf, listOf, isEmpty, maskOf}
 use Rattle.rollup.specs.Adding.{After, refuse, listHead, denseHead, commonMask, sumCount, startAfter, settle, waits, inserts, listAfter, sparseAfter, signedMin, signedKey, raisedByState, denseAfter, acceptedAfter, wantedPrecision, wantedCells, hasRoom, Ready, Shows}
+use Rattle.rollup.specs.declared.writing.Written.{Written}
+use Rattle.rollup.specs.Writing.{WritePost}
 use Rattle.rollup.proofs.FitLaws.{left, right, limit-small, FitSparse, FitDense, fit-none, fit-none-back, fit-sparse, fit-sparse-back, fit-dense, fit-dense-back}
 use Rattle.rollup.proofs.JudgeLaws.{JudgedFacts, judged-facts}
 
@@ -576,3 +578,10 @@ module _ (a : Accumulator) (m : Mem) (fit : fits a m ≡ true) (answer : ℕ) (r
             room = subst (λ (l : List ℕ). registerBytes (a .precision) ≤ length l) (sym (as-left .registers)) (x .room);
             small = subst (λ (l : List ℕ). largest (registersOf (a .precision) l) ≤ 88 - a .precision) (sym (as-left .registers)) (x .small);
           })
+
+-- ---- writing
+
+-- A write leaves a head that fits, whether it was refused or not: the values that wait may stand in another order, the rest is the same.
+pub write-keeps : (a : Accumulator) (m : Mem) (room : ℕ) (out : List ℕ) (r : Written) (n : Mem) (after : List ℕ) → fits a m ≡ true
+    → WritePost a m room out r n after → fits a n ≡ true
+write-keeps a m room out r n after fit post = refused-keeps a m fit (r .answer) a n (post .same)

@@ -3,6 +3,8 @@ pub mod AddLaws
 pub mod FitLaws
 pub mod JudgeLaws
 pub mod SparseLaws
+pub mod WriteLaws
+pub mod WrittenLaws
 pub mod KeepsLaws
 pub mod ViewLaws
 pub mod AgreementLaws

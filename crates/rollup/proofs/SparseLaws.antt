@@ -206,13 +206,13 @@ module _ (p s : ℕ) where
       (λ (v : ℕ) (m : List·Memᴰ v (a ++ b)).
       ⊎-elim (λ (i : List·Memᴰ v a). valid-mem p s v a f i) (λ (i : List·Memᴰ v b). valid-mem p s v b g i) (List·Memᴰ·append-cases a m))
 
-  valid-sort : (l : List ℕ) → allValid p s l ≡ true → allValid p s (sortOf l) ≡ true
+  pub valid-sort : (l : List ℕ) → allValid p s l ≡ true → allValid p s (sortOf l) ≡ true
   valid-sort l f = mem-valid p s (sortOf l) (λ (v : ℕ) (m : List·Memᴰ v (sortOf l)). valid-mem p s v l f (mem-perm (perm-sort l) m))
 
-  merged-sort : (a b : List ℕ) → merged p s a (sortOf b) ≡ merged p s a b
+  pub merged-sort : (a b : List ℕ) → merged p s a (sortOf b) ≡ merged p s a b
   merged-sort a b = merged-perm p s a (sortOf b) a b (Permᴰ·append-left a (perm-sort b))
 
-  merge-post : (a b c : List ℕ) (r : Merged) (after : List ℕ) → merged p s a b ≡ merged p s a c → MergePost p s a b r after → MergePost p s a c r after
+  pub merge-post : (a b c : List ℕ) (r : Merged) (after : List ℕ) → merged p s a b ≡ merged p s a c → MergePost p s a b r after → MergePost p s a c r after
   merge-post a b c r after e m =
       record { count = m .count ∙ ap length e; bytes = m .bytes ∙ ap written e; values = m .values ∙ e }
 
@@ -675,17 +675,18 @@ bytes-none l t e it = eqb-true (length l) 0 (not-false (isEmpty l) (sym e ∙ it
 length-written : (p s : ℕ) (l : List ℕ) → Pair p s → ascends l ≡ true → allValid p s l ≡ true → length l ≤ written l
 length-written p s l pair o v = omega (arith, accepted p s (encodeList l) (decode-encode pair l o v) .fewer, length-encode l)
 
-module _ {a : Accumulator} {m : Mem} {room : ℕ} {st : State} {vs : List ℕ} (x : SparseKnown a m room st vs) where
-  count-short : a .«sparse_len» + a .«pending_len» ≤ 2147483647
-  count-short =
-      let top : 2 ^ (a .precision - 2) ≤ 2 ^ 22 = pow-mono (let h : a .precision - 2 ≤ 22 = omega (arith, x .fit .pair .high) in h) in
-      let kept = length-written (a .precision) (a .«sparse_precision») (keptOf a m) (x .fit .pair) (x .fit .order) (x .fit .kept-valid) in
-      let len = length-take-le (a .«sparse_len») (m .sparse) (x .fit .kept-in) in
-      ⊎-elim
-      (λ (w : 0 < a .«pending_len»). omega (arith, top, kept, len, x .fit .bytes-low, x .fit .wait w))
-      (λ (w : a .«pending_len» ≤ 0). omega (arith, kept, len, x .fit .bytes-low, x .fit .bytes-high))
-      (side 0 (a .«pending_len»))
+-- As each value that is kept takes a byte, and few wait, the counts are small.
+pub counts-short : {a : Accumulator} {m : Mem} → FitSparse a m → a .«sparse_len» + a .«pending_len» ≤ 2147483647
+counts-short {a} {m} x =
+    let top : 2 ^ (a .precision - 2) ≤ 2 ^ 22 = pow-mono (let h : a .precision - 2 ≤ 22 = omega (arith, x .pair .high) in h) in
+    let kept = length-written (a .precision) (a .«sparse_precision») (keptOf a m) (x .pair) (x .order) (x .kept-valid) in
+    let len = length-take-le (a .«sparse_len») (m .sparse) (x .kept-in) in
+    ⊎-elim
+    (λ (w : 0 < a .«pending_len»). omega (arith, top, kept, len, x .bytes-low, x .wait w))
+    (λ (w : a .«pending_len» ≤ 0). omega (arith, kept, len, x .bytes-low, x .bytes-high))
+    (side 0 (a .«pending_len»))
 
+module _ {a : Accumulator} {m : Mem} {room : ℕ} {st : State} {vs : List ℕ} (x : SparseKnown a m room st vs) where
   pub data-pre : (length (dataOf st) ≡ 0 → ⊥) → (h : Accumulator) (row : List ℕ) → h ≡ countedBy a m st → row ≡ dataOf st
       → DensifyPre h (m .registers) (keptOf a m) (waitingOf a m) row
   data-pre n h row c g =
@@ -723,7 +724,7 @@ module _ {a : Accumulator} {m : Mem} {room : ℕ} {st : State} {vs : List ℕ} (
                     few = x .fit .few;
                     incoming = omega (arith, ap length f, t .fewer, x .short);
                   };
-              short = count-short;
+              short = counts-short (x .fit);
             };
         room =
             record {

@@ -23,7 +23,7 @@ use Rattle.rollup.specs.Writing.{WritePost}
 use Rattle.rollup.specs.Calls.{Call, Run, begun, adding, writing, valueOr, stateIn, valuesIn}
 use Rattle.rollup.proofs.FitLaws.{fit-none-back}
 use Rattle.rollup.proofs.AddLaws.{add-judged, add-full, add-listed, add-accepted}
-use Rattle.rollup.proofs.KeepsLaws.{accepted-keeps, refused-keeps}
+use Rattle.rollup.proofs.KeepsLaws.{accepted-keeps, refused-keeps, write-keeps}
 
 -- ---- questions 2 to 16
 
@@ -163,10 +163,6 @@ module _ (a : Accumulator) (m : Mem) (room : ℕ) (bytes : List ℕ) (r : Added)
       (λ (x : IsAccepted a m room bytes r n). accepted-keeps a m room (stateIn bytes) (valuesIn (stateIn bytes)) (x .ready) (r .head) n (x .shows)) add-view
 
 -- ---- writing, and a run
-
-pub write-keeps : (a : Accumulator) (m : Mem) (room : ℕ) (out : List ℕ) (r : Written) (n : Mem) (after : List ℕ) → fits a m ≡ true → WritePost a m room out r n after
-    → fits a n ≡ true
-write-keeps a m room out r n after fit post = refused-keeps a m fit 0 a n (post .same)
 
 pub fresh-fits : (m : Mem) → fits fresh m ≡ true
 fresh-fits m = fit-none-back fresh m refl (record { no-kept = refl; no-waiting = refl })

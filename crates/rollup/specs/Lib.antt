@@ -3,6 +3,7 @@ pub mod Fitting
 pub mod Header
 pub mod Adding
 pub mod Writing
+pub mod WritingPaths
 pub mod Calls
 pub mod DensePaths
 pub mod Accepting

@@ -320,28 +320,56 @@ hll-head-is : (h : HllState) (n : ℕ) → Two (hllHead h n) (hllStart h) (lengt
 unfolding hllHead hllStart
 hll-head-is h n = record { is = sym (append-assoc (hllNumbers h) (bytesField 5 (h .«data»)) (lengthPrefix 6 n)) }
 
-module _ (st : State) (n nested : ℕ) (e : nested ≡ length (hllStart (st .hll)) + length (lengthPrefix 6 n) + n) where
-  nested-length : length (hllHead (st .hll) n) + n ≡ nested
-  nested-length = omega (arith, two-length (hll-head-is (st .hll) n))
+pub hll-head-length : (h : HllState) (n : ℕ) → length (hllHead h n) ≡ length (hllStart h) + length (lengthPrefix 6 n)
+hll-head-length h n = two-length (hll-head-is h n)
 
+pub hll-head-le : (h : HllState) (n : ℕ) → length (hllHead h n) ≤ 100 + length (bytesOrNone (h .«data»))
+hll-head-le h n = omega (arith, hll-head-length h n, prefix-le 6 n, hll-start-length h, hll-numbers-le h, field-le 5 (h .«data»))
+
+module _ (st : State) (n nested : ℕ) (e : nested ≡ length (hllHead (st .hll) n) + n) where
   head-cut : headOf st n ≡ startOf st nested ++ lengthPrefix 6 n
   unfolding headOf startOf
   head-cut =
       let p = lengthPrefix 112 nested in
       let t = lengthPrefix 6 n in
       ap (λ (l : List ℕ). outerNumbers st ++ l)
-      (ap₂ (λ (k : ℕ) (l : List ℕ). lengthPrefix 112 k ++ l) nested-length (hll-head-is (st .hll) n .is)
+      (ap₂ (λ (k : ℕ) (l : List ℕ). lengthPrefix 112 k ++ l) (sym e) (hll-head-is (st .hll) n .is)
       ∙ sym (append-assoc p (hllStart (st .hll)) t))
       ∙ sym (append-assoc (outerNumbers st) (p ++ hllStart (st .hll)) t)
 
   pub head-is : Two (headOf st n) (startOf st nested) (lengthPrefix 6 n)
   head-is = record { is = head-cut }
 
+  pub head-length : length (headOf st n) ≡ length (outerNumbers st) + length (lengthPrefix 112 nested) + length (hllHead (st .hll) n)
+  unfolding headOf
+  head-length =
+      ap (λ (k : ℕ). length (outerNumbers st ++ (lengthPrefix 112 k ++ hllHead (st .hll) n))) (sym e) ∙ simp length-append (omega arith)
+
 -- The nested message's length is no more than the whole's.
-pub head-length-ge : (st : State) (n : ℕ) → length (hllStart (st .hll)) + length (lengthPrefix 6 n) ≤ length (headOf st n)
-unfolding headOf
-head-length-ge st n =
-    simp length-append (omega (arith, two-length (hll-head-is (st .hll) n)))
+pub head-length-ge : (st : State) (n : ℕ) → length (hllHead (st .hll) n) ≤ length (headOf st n)
+head-length-ge st n = omega (arith, head-length st n (length (hllHead (st .hll) n) + n) refl)
+
+-- The sparse data of a state has no part in its head.
+pub head-any : (st : State) (o : Option (List ℕ)) (n : ℕ)
+    → headOf st n
+    ≡ headOf
+    (record {
+      aggregatorType = st .aggregatorType;
+      numValues = st .numValues;
+      encodingVersion = st .encodingVersion;
+      valueType = st .valueType;
+      hll =
+          record {
+            sparseSize = st .hll .sparseSize;
+            precision = st .hll .precision;
+            sparsePrecision = st .hll .sparsePrecision;
+            «data» = st .hll .«data»;
+            sparseData = o;
+          };
+    })
+    n
+unfolding headOf hllHead hllNumbers outerNumbers
+head-any st o n = refl
 
 -- With the bytes of the sparse data behind it, the head is the whole state.
 pub head-tail : (st : State) (l : List ℕ) → st .hll .sparseData ≡ some l → encodeOf st ≡ headOf st (length l) ++ l
@@ -349,8 +377,8 @@ unfolding bytesField
 head-tail st l e =
     let n = length (hllBytes (st .hll)) in
     let six : bytesField 6 (st .hll .sparseData) ≡ lengthPrefix 6 (length l) ++ l = ap (λ (o : Option (List ℕ)). bytesField 6 o) e in
-    let k : n ≡ length (hllStart (st .hll)) + length (lengthPrefix 6 (length l)) + length l = (
-    omega (arith, hll-length (st .hll), ap (λ (b : List ℕ). length b) six ∙ length-append (lengthPrefix 6 (length l)) l)
+    let k : n ≡ length (hllHead (st .hll) (length l)) + length l = (
+    omega (arith, hll-length (st .hll), hll-head-length (st .hll) (length l), ap (λ (b : List ℕ). length b) six ∙ length-append (lengthPrefix 6 (length l)) l)
     ) in
     encode-cut st
     ∙ ap (λ (b : List ℕ). startOf st n ++ b) six
@@ -359,11 +387,11 @@ head-tail st l e =
 
 -- ---- the answers of `encode`
 
-encode-no : (st : State) (room : ℕ) → room < length (encodeOf st) → encodeStep st room ≡ record { answer = 23; bytes = [] }
+pub encode-no : (st : State) (room : ℕ) → room < length (encodeOf st) → encodeStep st room ≡ record { answer = 23; bytes = [] }
 unfolding encodeStep
 encode-no st room h = ap (λ (b : Bool). cond b (record { answer = 0; bytes = encodeOf st }) (record { answer = 23; bytes = [] })) (lt-leb _ _ h)
 
-encode-yes : (st : State) (room : ℕ) → length (encodeOf st) ≤ room → encodeStep st room ≡ record { answer = 0; bytes = encodeOf st }
+pub encode-yes : (st : State) (room : ℕ) → length (encodeOf st) ≤ room → encodeStep st room ≡ record { answer = 0; bytes = encodeOf st }
 unfolding encodeStep
 encode-yes st room h = ap (λ (b : Bool). cond b (record { answer = 0; bytes = encodeOf st }) (record { answer = 23; bytes = [] })) (le-leb _ _ h)
 

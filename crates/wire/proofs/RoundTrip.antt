@@ -93,22 +93,22 @@ type-cuts : (t : ℕ) → Cuts outerField CutReading emptyState (numberField 1 (
 unfolding outerField
 type-cuts t =
     cuts-number 1 (omega arith) (omega arith) (λ (x : ℕ). stateWith (int32 x) 0 1 0 emptyHll) (λ (l : List ℕ). refl) (signExtended t)
-    before (cut-refused 3)
+    before cut-refused
 
 count-cuts : {t : ℕ} (n : ℕ) → Cuts outerField CutReading (stateWith t 0 1 0 emptyHll) (numberField 2 n)
 unfolding outerField
 count-cuts {t} n =
-    cuts-number 2 (omega arith) (omega arith) (λ (x : ℕ). stateWith t x 1 0 emptyHll) (λ (l : List ℕ). refl) n before (cut-refused 3)
+    cuts-number 2 (omega arith) (omega arith) (λ (x : ℕ). stateWith t x 1 0 emptyHll) (λ (l : List ℕ). refl) n before cut-refused
 
 version-cuts : {t n : ℕ} (v : ℕ) → Cuts outerField CutReading (stateWith t n 1 0 emptyHll) (int32Unless 1 3 v)
 unfolding outerField
 version-cuts {t} {n} v =
-    cuts-unless 3 (omega arith) (omega arith) (λ (x : ℕ). stateWith t n x 0 emptyHll) (λ (l : List ℕ). refl) 1 v before (cut-refused 3)
+    cuts-unless 3 (omega arith) (omega arith) (λ (x : ℕ). stateWith t n x 0 emptyHll) (λ (l : List ℕ). refl) 1 v before cut-refused
 
 value-type-cuts : {t n v : ℕ} (y : ℕ) → Cuts outerField CutReading (stateWith t n v 0 emptyHll) (int32Unless 0 4 y)
 unfolding outerField
 value-type-cuts {t} {n} {v} y =
-    cuts-unless 4 (omega arith) (omega arith) (λ (x : ℕ). stateWith t n v x emptyHll) (λ (l : List ℕ). refl) 0 y before (cut-refused 3)
+    cuts-unless 4 (omega arith) (omega arith) (λ (x : ℕ). stateWith t n v x emptyHll) (λ (l : List ℕ). refl) 0 y before cut-refused
 
 -- Field 112, where no field of the nested message was read before.
 abbrev nested : ℕ → ℕ → ℕ → ℕ → List ℕ → List ℕ → Read State
@@ -122,7 +122,7 @@ module _ {t n v y : ℕ} (m : List ℕ) (short : length m < 2 ^ 64) where
 
   nested-cuts : Cuts outerField CutReading (stateWith t n v y emptyHll) (bytesField 112 (some m))
   unfolding outerField
-  nested-cuts = cuts-bytes 112 (omega arith) (omega arith) (nested t n v y) (λ (l : List ℕ). refl) m short before (cut-refused 3)
+  nested-cuts = cuts-bytes 112 (omega arith) (omega arith) (nested t n v y) (λ (l : List ℕ). refl) m short before cut-refused
 
 -- ---- what the two definitions say of each other
 
@@ -171,7 +171,7 @@ module _ (st : State) (w : FitsWidths st) where
       cuts-message k (cuts-both numbers-lead numbers-cut (nested-cuts (hllBytes (st .hll)) (w .nested))) h
 
 no-nested : (r : Read State) → CutReading r → (st : State) (l : List ℕ) → r ≡ got st l → st .hll ≡ emptyHll
-no-nested r (cut-refused n) st l e = absurd (let z : _≡_ {A = ℕ} 0 1 = cc in let y : ⊥ = omega arith in y)
+no-nested r cut-refused st l e = absurd (let z : _≡_ {A = ℕ} 0 1 = cc in let y : ⊥ = omega arith in y)
 no-nested r (cut-before-hll st′ f) st l e = let same : st′ ≡ st = cc in subst (λ (x : State). x .hll ≡ emptyHll) same f
 
 pub no-prefix : (st : State) → FitsWidths st → (st .hll ≡ emptyHll → ⊥) → (k : ℕ) → k < length (encodeOf st)

@@ -85,9 +85,9 @@ pub record SameFields (st st′ : State) : Type 0 where
   pub «data» : st′ .hll .«data» ≡ st .hll .«data»
   pub sparseData : st′ .hll .sparseData ≡ st .hll .sparseData
 
--- What reading a written state that is cut off may find: a refusal, or a state without any field of the nested message.
+-- What reading a written state that is cut off may find: 3, or a state without any field of the nested message.
 pub data CutReading : Read State → Type 0 where
-  cut-refused : (n : ℕ) → CutReading (refused n)
+  cut-refused : CutReading (refused 3)
   cut-before-hll : (st : State) → st .hll ≡ emptyHll → CutReading (got st [])
 
 -- What `encode` is to answer and write: document 01's question 23, "does the output fit?", and the bytes.

@@ -6,7 +6,7 @@ ghost use Prim.Native.Nat.{_+_, _≤_, _<_, _^_};
 ghost use lib.ListN.{length};
 ghost use Rattle.wire.specs.Varints.{PutPost};
 ghost use Rattle.wire.specs.State.{whenPresent, hllOf, stateOf, bytesOrNone};
-ghost use Rattle.wire.specs.Encoding.{numberField, signExtended, int32Unless, lengthPrefix, bytesField, hllNumbers, hllBytes, outerNumbers, encodeOf, hllStart, startOf, headOf, EncodePost};
+ghost use Rattle.wire.specs.Encoding.{numberField, signExtended, int32Unless, lengthPrefix, bytesField, hllNumbers, hllBytes, outerNumbers, encodeOf, hllHead, hllStart, startOf, headOf, EncodePost};
 use crate::state::Fields;
 use crate::state::HllFields;
 use crate::state::data;
@@ -97,6 +97,27 @@ fn hll_len(bytes: &[u8], f: Fields) -> usize
 {
     let h = f.hll;
     hll_start_len(bytes, f) + field_len(6, h.sparse_data_present, sparse_data(bytes, f))
+}
+
+// The nested message with as many bytes of sparse data as `f` says, wherever they are.
+fn nested_len(bytes: &[u8], f: Fields) -> usize
+    requires { ⌜ length (hllHead (stateOf (now bytes) f .hll) (f .hll .«sparse_data» .len)) + f .hll .«sparse_data» .len < 2 ^ 64 ⌝ }
+    ensures { λ r. ⌜ r ≡ length (hllHead (stateOf (now (bytes .entry)) f .hll) (f .hll .«sparse_data» .len)) + f .hll .«sparse_data» .len ⌝ }
+{
+    let h = f.hll;
+    let p = h.sparse_data;
+    hll_start_len(bytes, f) + prefix_len(6, p.len) + p.len
+}
+
+// How many bytes `encode_head` writes.
+pub fn head_len(bytes: &[u8], f: Fields) -> usize
+    requires { ⌜ length (bytesOrNone (stateOf (now bytes) f .hll .«data»)) + f .hll .«sparse_data» .len < 2 ^ 63 ⌝ }
+    ensures { λ r. ⌜ r ≡ length (headOf (stateOf (now (bytes .entry)) f) (f .hll .«sparse_data» .len)) ⌝ }
+{
+    let h = f.hll;
+    let p = h.sparse_data;
+    let nested = nested_len(bytes, f);
+    outer_numbers_len(f) + prefix_len(112, nested) + (nested - p.len)
 }
 
 // How many bytes `encode` writes.
@@ -198,10 +219,8 @@ pub fn encode_head(bytes: &[u8], f: Fields, out: &mut [u8]) -> usize
 {
     let h = f.hll;
     let p = h.sparse_data;
-    let n = p.len;
-    let nested = hll_start_len(bytes, f) + prefix_len(6, n) + n;
-    let at = put_start(bytes, f, nested, out);
-    put_prefix(out, at, 6, n)
+    let at = put_start(bytes, f, nested_len(bytes, f), out);
+    put_prefix(out, at, 6, p.len)
 }
 
 fn put_state(bytes: &[u8], f: Fields, out: &mut [u8]) -> usize

@@ -1,0 +1,136 @@
+-- What is written of a roll-up is read back, and no proper prefix of it is accepted: for readers of what was written.
+use Prim.Native.Nat.{ℕ, _+_, _^_, _<_, _≤_}
+use mathlib.Core.Path.{_≡_, refl, sym, ap, subst, _∙_}
+use mathlib.Core.Bool.{Bool, true, false, true≢false}
+use mathlib.Core.List.{List, []}
+use mathlib.Core.Option.{none, some}
+use native.Mathlib.Omega.{arith}
+use lib.ListN.{length, take}
+use lib.Pow.{pow-mono}
+use Rattle.wire.specs.Reading.{got}
+use Rattle.wire.specs.State.{State, readState}
+use Rattle.wire.specs.Encoding.{FitsWidths, CutReading}
+use Rattle.wire.proofs.EncodingLaws.{hll-length, hll-start-length, hll-numbers-le, field-le}
+use Rattle.wire.proofs.RoundTrip.{round-trip, cut-reading}
+use Rattle.lists.specs.Lists.{encodeList}
+use Rattle.lists.specs.Registers.{registersOf}
+use Rattle.lists.proofs.MergeLaws.{length-encode}
+use Rattle.lists.proofs.DecodingLaws.{decode-encode}
+use Rattle.lists.proofs.RegisterLaws.{of-length}
+use Rattle.rollup.specs.declared.accumulator.Form.{Form}
+use Rattle.rollup.specs.declared.accumulator.Form.the-variants.{Unstarted, Sparse, Dense}
+use Rattle.rollup.specs.declared.accumulator.Accumulator.{Accumulator}
+use Rattle.rollup.specs.Accumulator.{Mem, fits}
+use Rattle.rollup.specs.Header.{dataOf}
+use Rattle.rollup.specs.Adding.{Outcome, isStarted, listedIn, judge, addOutcome}
+use Rattle.rollup.specs.Writing.{flushed, currentSize, stateWith, stateForm, writeOutcome}
+use Rattle.rollup.proofs.FitLaws.{fit-sparse, fit-dense, limit-small}
+use Rattle.rollup.proofs.JudgeLaws.{Refuses, cut-judged}
+use Rattle.rollup.proofs.AddLaws.{add-unfit, add-judged}
+use Rattle.rollup.proofs.WriteLaws.{WroteFacts, wrote-facts, list-state, dense-state, list-below, flushed-order, flushed-valid, size-fits}
+
+-- The bounds that a head's numbers have by their types.
+pub record HeadWidths (a : Accumulator) : Type 0 where
+  pub value-type : a .«value_type» < 2 ^ 32
+  pub count : a .«num_values» < 2 ^ 64
+  pub sparse-precision : a .«sparse_precision» < 2 ^ 32
+  pub size : a .«sparse_size» < 2 ^ 32
+
+module _ (a : Accumulator) (m : Mem) (room space : ℕ) (wrote : writeOutcome a m room space .answer ≡ 0) where
+  facts : WroteFacts a m room space
+  facts = wrote-facts a m room space wrote
+
+  abbrev state : State
+  state = stateForm (a .form) a m
+
+  -- A list roll-up's state has a list below the limit, a dense one's 2^p data bytes.
+  list-widths : a .form ≡ Sparse → HeadWidths a → FitsWidths state
+  list-widths e w =
+      let fit = fit-sparse a m (facts .fit) e in
+      let st = stateWith a (currentSize a m) none (some (encodeList (flushed a m))) in
+      subst FitsWidths (sym (list-state a m e))
+      (record {
+        aggregatorType = omega arith;
+        numValues = w .count;
+        encodingVersion = omega arith;
+        valueType = w .value-type;
+        sparseSize = size-fits a m fit (w .size);
+        precision = omega (arith, fit .pair .high);
+        sparsePrecision = w .sparse-precision;
+        nested =
+            omega (
+              arith,
+              hll-length (st .hll),
+              hll-start-length (st .hll),
+              hll-numbers-le (st .hll),
+              field-le 5 (st .hll .«data»),
+              field-le 6 (st .hll .sparseData),
+              length-encode (flushed a m),
+              list-below a m e (facts .below),
+              limit-small (a .precision) (fit .pair .high),
+            );
+      })
+
+  dense-widths : a .form ≡ Dense → HeadWidths a → FitsWidths state
+  dense-widths e w =
+      let fit = fit-dense a m (facts .fit) e in
+      let st = stateWith a (a .«sparse_size») (some (registersOf (a .precision) (m .registers))) none in
+      subst FitsWidths (sym (dense-state a m e))
+      (record {
+        aggregatorType = omega arith;
+        numValues = w .count;
+        encodingVersion = omega arith;
+        valueType = w .value-type;
+        sparseSize = w .size;
+        precision = omega (arith, fit .high);
+        sparsePrecision = w .sparse-precision;
+        nested =
+            omega (
+              arith,
+              hll-length (st .hll),
+              hll-start-length (st .hll),
+              hll-numbers-le (st .hll),
+              field-le 5 (st .hll .«data»),
+              field-le 6 (st .hll .sparseData),
+              of-length (a .precision) (m .registers) (fit .room),
+              pow-mono (fit .high),
+            );
+      })
+
+  widths : HeadWidths a → FitsWidths state
+  widths w = by-form (a .form) refl
+    where
+      by-form : (f : Form) → a .form ≡ f → FitsWidths state
+      by-form Unstarted e = absurd (true≢false (sym (facts .started) ∙ ap isStarted e))
+      by-form Sparse e = list-widths e w
+      by-form Dense e = dense-widths e w
+
+  -- Where a roll-up was written, reading the bytes gives its state, and nothing is left over.
+  pub read-back : HeadWidths a → readState (writeOutcome a m room space .bytes) ≡ got state []
+  read-back w = ap readState (facts .bytes) ∙ round-trip state (widths w)
+
+  -- The list of a list roll-up's state reads as the values that were kept and waited, as one list.
+  pub list-back : a .form ≡ Sparse → listedIn state ≡ got (flushed a m) []
+  list-back e =
+      let fit = fit-sparse a m (facts .fit) e in
+      ap listedIn (list-state a m e) ∙ decode-encode (fit .pair) (flushed a m) (flushed-order a m fit) (flushed-valid a m fit)
+
+  -- The data of a dense roll-up's state are its registers.
+  pub data-back : a .form ≡ Dense → dataOf state ≡ registersOf (a .precision) (m .registers)
+  data-back e = ap dataOf (dense-state a m e)
+
+  -- No proper prefix of what was written is accepted, whatever the roll-up that it is added to: it is cut inside a field, which is 3, or it
+  -- ends before field 112 and so has p = 0, which 11 refuses, if no question before does.
+  pub no-prefix-accepted : HeadWidths a → (k : ℕ) → k < length (writeOutcome a m room space .bytes) → (b : Accumulator) (n : Mem) (room′ : ℕ)
+      → addOutcome b n room′ (take k (writeOutcome a m room space .bytes)) .answer ≡ 0 → ⊥
+  no-prefix-accepted w k h b n room′ e =
+      let bytes = take k (writeOutcome a m room space .bytes) in
+      let cut = cut-reading state (widths w) k (subst (λ (l : List ℕ). k < length l) (facts .bytes) h) in
+      let x = cut-judged b bytes (subst (λ (l : List ℕ). CutReading (readState (take k l))) (sym (facts .bytes)) cut) in
+      answered b n room′ bytes (fits b n) refl x e
+    where
+      answered : (b : Accumulator) (n : Mem) (room′ : ℕ) (bytes : List ℕ) (t : Bool) → fits b n ≡ t → Refuses (judge b bytes)
+          → addOutcome b n room′ bytes .answer ≡ 0 → ⊥
+      answered b n room′ bytes true f x e =
+          omega (arith, x .above, sym (ap (λ (o : Outcome). o .answer) (add-judged b n room′ bytes (x .number) f (x .is))) ∙ e)
+      answered b n room′ bytes false f x e = omega (arith, sym (ap (λ (o : Outcome). o .answer) (add-unfit b n room′ bytes f)) ∙ e)
