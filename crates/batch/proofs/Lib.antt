@@ -1,1 +1,2 @@
 pub mod ChainLaws
+pub mod ClosingLaws

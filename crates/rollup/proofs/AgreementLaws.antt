@@ -44,12 +44,12 @@ list-merged p s a b = list-same p s (merged p s a b) (a ++ b) (λ (j : ℕ). ran
 abbrev row : ℕ → ℕ → List ℕ → List ℕ
 row p s l = raisedBy p s (zeros p) l
 
-row-length : (p s : ℕ) (l : List ℕ) → length (row p s l) ≡ 2 ^ p
+pub row-length : (p s : ℕ) (l : List ℕ) → length (raisedBy p s (zeros p) l) ≡ 2 ^ p
 row-length p s l = raised-length p s (zeros p) l ∙ length-replicate (2 ^ p) 0
 
 -- Of valid values they are what the values make of zeros.
 module _ (p s : ℕ) (pair : Pair p s) where
-  list-row : (l : List ℕ) → allValid p s l ≡ true → listRegisters p s l ≡ row p s l
+  pub list-row : (l : List ℕ) → allValid p s l ≡ true → listRegisters p s l ≡ raisedBy p s (zeros p) l
   unfolding listRegisters
   list-row l ok = row-raised p s l (valid-inside p s l pair ok)
 
@@ -70,6 +70,15 @@ lowered-here p q regs e f =
     ap₂ (λ (d k : ℕ). lowered d k regs) (let z : p - q ≡ 0 = omega arith in z) e ∙ registers-same p regs f
 
 -- ---- what a call left
+
+-- The roll-up's registers, by its form.
+pub registers-list : (a : Accumulator) (m : Mem) → rollupRegisters Sparse a m ≡ listRegisters (a .precision) (a .«sparse_precision») (keptOf a m ++ waitingOf a m)
+unfolding rollupRegisters
+registers-list a m = refl
+
+pub registers-dense : (a : Accumulator) (m : Mem) → rollupRegisters Dense a m ≡ registersOf (a .precision) (m .registers)
+unfolding rollupRegisters
+registers-dense a m = refl
 
 module _ (x : After) (r : Accumulator) (n : Mem) (sh : Shows x r n) where
   left-form : (f : Form) → x .head .form ≡ f → rollupRegisters (r .form) r n ≡ rollupRegisters f r n

@@ -162,7 +162,7 @@ module _ (a : Accumulator) (m : Mem) (room : ℕ) (bytes : List ℕ) (r : Added)
       ⊎-elim (λ (x : IsRefused a m r n). refused-keeps a m fit 0 (r .head) n (x .same))
       (λ (x : IsAccepted a m room bytes r n). accepted-keeps a m room (stateIn bytes) (valuesIn (stateIn bytes)) (x .ready) (r .head) n (x .shows)) add-view
 
--- ---- writing, and a run
+-- ---- a run
 
 pub fresh-fits : (m : Mem) → fits fresh m ≡ true
 fresh-fits m = fit-none-back fresh m refl (record { no-kept = refl; no-waiting = refl })

@@ -1,0 +1,75 @@
+-- The closing numbers: the registers of a list, set in lent bytes and counted, and the count by the form.
+use Prim.Native.Nat.{ℕ, _<_, _≤_}
+use mathlib.Core.Path.{_≡_, refl, sym, ap, _∙_, subst}
+use mathlib.Core.List.{List, _++_, List·Memᴰ}
+use mathlib.Core.Bool.{Bool, true, cond}
+use native.Mathlib.Omega.{arith}
+use lib.Dec.{leb}
+use lib.ListN.{length, take}
+use borrow.Author.Tests.{le-leb, lt-leb}
+use Rattle.lists.specs.Values.{Pair, register}
+use Rattle.lists.specs.Lists.{allValid}
+use Rattle.lists.specs.Registers.{registerBytes, registersOf, withRegisters, zeros, raisedBy, notZero}
+use Rattle.lists.proofs.RankLaws.{valid-inside}
+use Rattle.lists.proofs.RegisterLaws.{of-with}
+use Rattle.rollup.specs.declared.accumulator.Form.{Form}
+use Rattle.rollup.specs.declared.accumulator.Form.the-variants.{Unstarted, Sparse, Dense}
+use Rattle.rollup.specs.declared.accumulator.Accumulator.{Accumulator}
+use Rattle.rollup.specs.Accumulator.{Mem, fits}
+use Rattle.rollup.specs.Calls.{listRegisters, rollupRegisters}
+use Rattle.rollup.proofs.FitLaws.{FitSparse, FitDense, fit-sparse, fit-dense}
+use Rattle.rollup.proofs.KeepsLaws.{valid-append}
+use Rattle.rollup.proofs.AgreementLaws.{row-length, list-row, registers-list, registers-dense}
+use Rattle.batch.specs.declared.closing.Count.{Count}
+use Rattle.batch.specs.declared.closing.Count.the-variants.{Registers, Short}
+use Rattle.batch.specs.Closing.{countFor, ListCountPre}
+
+-- A list's values, set in lent bytes and counted.
+module _ (p s : ℕ) (pair : Pair p s) (l bytes : List ℕ) (ok : allValid p s l ≡ true) (room : registerBytes p ≤ length bytes) where
+  pub list-counted : (after : List ℕ) (n : ℕ) → after ≡ withRegisters p (raisedBy p s (zeros p) l) bytes → n ≡ notZero (registersOf p after)
+      → n ≡ notZero (listRegisters p s l)
+  list-counted after n e f =
+      f
+      ∙ ap notZero
+      (ap (registersOf p) e
+      ∙ of-with p bytes room (raisedBy p s (zeros p) l) (row-length p s l)
+      ∙ sym (list-row p s pair l ok))
+
+-- Memory that a list's registers can be set from.
+pub list-pre : (a : Accumulator) (m : Mem) (spare : List ℕ) → fits a m ≡ true → a .form ≡ Sparse → registerBytes (a .precision) ≤ length spare
+    → ListCountPre a (m .sparse) (m .pending) spare
+list-pre a m spare fit form room =
+    let f = fit-sparse a m fit form in
+    record { pair = f .pair; kept-in = f .kept-in; waiting-in = f .waiting-in; kept-valid = f .kept-valid; waiting-valid = f .waiting-valid; room = room }
+
+-- The count, by the form.
+module _ (a : Accumulator) (m : Mem) (space : ℕ) where
+  at-form : (f : Form) (r : Count) → a .form ≡ f → r ≡ countFor f a m space → r ≡ countFor (a .form) a m space
+  at-form f r e h = h ∙ ap (λ (g : Form). countFor g a m space) (sym e)
+
+  pub count-none : a .form ≡ Unstarted → Registers 0 ≡ countFor (a .form) a m space
+  unfolding countFor
+  count-none e = at-form Unstarted (Registers 0) e refl
+
+  pub count-dense : (n : ℕ) → a .form ≡ Dense → n ≡ notZero (registersOf (a .precision) (m .registers)) → Registers n ≡ countFor (a .form) a m space
+  unfolding countFor
+  count-dense n e h = at-form Dense (Registers n) e (ap Registers (h ∙ ap notZero (sym (registers-dense a m))))
+
+  pub count-short : (n : ℕ) → a .form ≡ Sparse → n ≡ registerBytes (a .precision) → space < n → Short ≡ countFor (a .form) a m space
+  unfolding countFor
+  count-short n e f h =
+      at-form Sparse Short e
+      (sym
+      (ap (λ (t : Bool). cond t (Registers (notZero (rollupRegisters Sparse a m))) Short)
+      (lt-leb (registerBytes (a .precision)) space (subst (λ (k : ℕ). space < k) f h))))
+
+  pub count-list : (n k : ℕ) → a .form ≡ Sparse → n ≡ registerBytes (a .precision) → n ≤ space
+      → k ≡ notZero (listRegisters (a .precision) (a .«sparse_precision») (take (a .«sparse_len») (m .sparse) ++ take (a .«pending_len») (m .pending)))
+      → Registers k ≡ countFor (a .form) a m space
+  unfolding countFor
+  count-list n k e f h g =
+      at-form Sparse (Registers k) e
+      (ap Registers (g ∙ ap notZero (sym (registers-list a m)))
+      ∙ sym
+      (ap (λ (t : Bool). cond t (Registers (notZero (rollupRegisters Sparse a m))) Short)
+      (le-leb (registerBytes (a .precision)) space (subst (λ (x : ℕ). x ≤ space) f h))))
