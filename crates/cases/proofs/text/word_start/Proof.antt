@@ -2,8 +2,8 @@
 use Prim.Native.Nat.{_-_, _≤_}
 use lib.ListN.{length}
 use borrow.Author.Needs.{needs}
-use Rattle.lists_cases.proofs.text.word_start.Statement.{statement}
-use Rattle.lists_cases.proofs.text.word_start.Tie as tie
+use Rattle.cases.proofs.text.word_start.Statement.{statement}
+use Rattle.cases.proofs.text.word_start.Tie as tie
 
 abbrev Inv-loop : tie.InvT-loop
 Inv-loop line k start₀ i₀ start i = start ≤ length line

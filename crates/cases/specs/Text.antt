@@ -2,8 +2,8 @@
 use mathlib.Core.List.{List}
 use Prim.Native.Nat.{ℕ}
 use Rattle.io.specs.Counts.{Counts}
-use Rattle.lists_cases.specs.declared.text.Listed.{Listed}
-use Rattle.lists_cases.specs.declared.text.Listed.the-variants.{Count, Other}
+use Rattle.cases.specs.declared.text.Listed.{Listed}
+use Rattle.cases.specs.declared.text.Listed.the-variants.{Count, Other}
 
 -- The count lies inside the memory that is lent. That it is the right list, the answers of the cases show.
 abbrev pub ListedPost : List ℕ → Listed → Type 0

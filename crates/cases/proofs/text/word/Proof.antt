@@ -1,7 +1,7 @@
 -- `word` is safe: a word starts inside the line, and so ends inside it.
 use borrow.Author.Needs.{needs}
-use Rattle.lists_cases.proofs.text.word.Statement.{statement}
-use Rattle.lists_cases.proofs.text.word.Tie as tie
+use Rattle.cases.proofs.text.word.Statement.{statement}
+use Rattle.cases.proofs.text.word.Tie as tie
 
 word-start-requires : tie.Need-word-start-requires
 word-start-requires c κs = search needs

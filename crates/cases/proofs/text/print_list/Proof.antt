@@ -2,8 +2,8 @@
 use Prim.Native.Nat.{_-_}
 use lib.ListN.{length}
 use borrow.Author.Needs.{needs}
-use Rattle.lists_cases.proofs.text.print_list.Statement.{statement}
-use Rattle.lists_cases.proofs.text.print_list.Tie as tie
+use Rattle.cases.proofs.text.print_list.Statement.{statement}
+use Rattle.cases.proofs.text.print_list.Tie as tie
 
 abbrev Inv-loop : tie.InvT-loop
 Inv-loop l i₀ t4 i = Unit {0}
