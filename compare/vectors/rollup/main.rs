@@ -217,8 +217,6 @@ impl Rollup {
             h.form, h.allowed, h.value_type, h.num_values, h.p, h.s, h.size, h.kept, h.bytes, h.waiting,
             text(self.kept()), text(&waiting), runs(&self.registers)
         )
-        .trim_end_matches('\n')
-        .to_string()
     }
 }
 
@@ -228,7 +226,7 @@ fn runs(bytes: &[u8]) -> String {
         .chunk_by(|a, b| a == b)
         .map(|run| if run.len() == 1 { run[0].to_string() } else { format!("{}*{}", run[0], run.len()) })
         .collect();
-    parts.join(",")
+    if parts.is_empty() { ".".to_string() } else { parts.join(",") }
 }
 
 // ---- states
@@ -261,7 +259,7 @@ fn registers(p: i32, some: &[(usize, u8)]) -> Vec<u8> {
     bytes
 }
 
-/// A list of n values from `from` on, each gap 1, of which `long` are spelled with two bytes.
+/// The list 1, 2, .. n: its first `long` gaps are spelled with two bytes.
 fn spelled(n: usize, long: usize) -> Vec<u8> {
     (0..n).flat_map(|i| if i < long { vec![0x81, 0x00] } else { vec![0x01] }).collect()
 }
@@ -281,7 +279,7 @@ struct Made {
 
 impl Made {
     fn ok(&mut self, kind: &str, operands: &str) {
-        self.all.counted(kind, operands, "ok", format!("{kind}"));
+        self.all.counted(kind, operands, "ok", kind.to_string());
     }
 
     fn lend(&mut self, registers: usize, kept: usize, waiting: usize, working: usize) {
