@@ -624,6 +624,13 @@ fn room(made: &mut Made) {
     made.add(0, &Fields { sparse_data: Some(Vec::new()), ..neither(pair) });
     made.add(0, &dense(pair, &[1; 16]));
     made.add(17, &list(pair, &[3]));
+    made.all.remark("17: registers of large precisions, and one byte short of 2^14");
+    made.lend(16384, 9, 9, 9);
+    made.add(17, &neither((24, 25)));
+    made.add(17, &list((15, 20), &[3]));
+    made.add(0, &list((14, 20), &[3]));
+    made.lend(16383, 9, 9, 9);
+    made.add(17, &list((14, 20), &[3]));
     made.all.remark("17 comes before 18 to 20");
     made.lend(16, 0, 8, 8);
     for bytes in ["80", "8080808010", "ff7f"] {
@@ -757,6 +764,11 @@ fn unfit(made: &mut Made) {
     made.all.remark("1: an unstarted head with a count that is not 0; other numbers do not matter, and the first state sets them all");
     for (kept, waiting, want) in [(1, 0, 1), (0, 1, 1), (u64::MAX, u64::MAX, 1), (0, 0, 0)] {
         set(made, Head { form: UNSTARTED, allowed: 200, value_type: -7, num_values: -1, p: 99, s: 0, size: -3, kept, bytes: u64::MAX, waiting }, &[3], &[3]);
+        if want == 0 {
+            made.add(8, &Fields { encoding_version: 1, ..state.clone() });
+            made.add(17, &neither((14, 20)));
+            made.add(18, &raw(pair, 1, &[0x80]));
+        }
         made.add(want, &state);
     }
     made.all.remark("1: a dense head: a count that is not 0, p, s, a register above 88-p, too few register bytes; and heads that just fit");

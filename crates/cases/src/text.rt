@@ -1,7 +1,10 @@
 // Reading the operands of a case, and printing answers: words between blanks, decimal numbers, lists of them.
-ghost use Prim.Native.Nat.{_≤_};
-ghost use lib.ListN.{length};
-ghost use Rattle.cases.specs.Text.{ListedPost};
+ghost use mathlib.Core.Path.{_≡_};
+ghost use mathlib.Core.Option.{some};
+ghost use Prim.Native.Nat.{_+_, _≤_};
+ghost use lib.ListN.{length, drop};
+ghost use Rattle.cases.specs.Input.{decimalOf, below64};
+ghost use Rattle.cases.specs.Text.{wordOf, WordStart, valueMeans, below32, orZero, ListedPost};
 use crate::input::Number;
 use libc::STDOUT_FILENO;
 
@@ -20,14 +23,14 @@ pub enum Listed {
 // Where the next word starts: behind the blank at `end`, or at the end of the line.
 fn next_start(line: &[u8], end: usize) -> usize
     requires { ⌜ end ≤ length (now line) ⌝ }
-    ensures { λ r. ⌜ r ≤ length (now (line .entry)) ⌝ }
+    ensures { λ r. ⌜ (r ≤ length (now (line .entry))) × (drop r (now (line .entry)) ≡ drop (end + 1) (now (line .entry))) ⌝ }
 {
     if end < line.len() { end + 1 } else { end }
 }
 
 // Where the word that has k others before it starts.
 fn word_start(line: &[u8], k: usize) -> usize
-    ensures { λ r. ⌜ r ≤ length (now (line .entry)) ⌝ }
+    ensures { λ r. ⌜ WordStart (now (line .entry)) k r ⌝ }
 {
     let mut start: usize = 0;
     let mut i: usize = 0;
@@ -40,28 +43,50 @@ fn word_start(line: &[u8], k: usize) -> usize
 }
 
 // The word that has k others before it: no bytes where the line has no such word.
-pub fn word(line: &[u8], k: usize) -> &[u8] {
+pub fn word(line: &[u8], k: usize) -> &[u8]
+    ensures { λ r. ⌜ now r ≡ wordOf k (now (line .entry)) ⌝ }
+{
     let start = word_start(line, k);
     let end = crate::input::find(line, start, b' ');
     &line[start..end]
 }
 
-pub fn read_value(word: &[u8]) -> Value {
-    let r = crate::input::read_number(word);
-    let Number::Value(v) = r else {
-        return Value::Other;
-    };
+// Of the numbers those that 32 bits hold.
+fn value_of(v: u64) -> Value
+    ensures { λ r. ⌜ valueMeans r ≡ below32 (some v) ⌝ }
+{
     if v < 0x1_0000_0000 {
         return Value::Is(v as u32);
     }
     Value::Other
 }
 
-// A precision: 0, which no list has, where the word is no number.
-pub fn precision(word: &[u8]) -> u32 {
+pub fn read_value(word: &[u8]) -> Value
+    ensures { λ r. ⌜ valueMeans r ≡ below32 (decimalOf (now (word .entry))) ⌝ }
+{
+    match crate::input::read_number(word) {
+        Number::Value(v) => value_of(v),
+        Number::Other => Value::Other,
+    }
+}
+
+// A number of 32 bits: 0 where the word is none. No list has the precision 0.
+pub fn precision(word: &[u8]) -> u32
+    ensures { λ r. ⌜ r ≡ orZero (below32 (decimalOf (now (word .entry)))) ⌝ }
+{
     match read_value(word) {
         Value::Is(v) => v,
         Value::Other => 0,
+    }
+}
+
+// A number of 64 bits: 0 where the word is none.
+pub fn number(word: &[u8]) -> u64
+    ensures { λ r. ⌜ r ≡ orZero (below64 (decimalOf (now (word .entry)))) ⌝ }
+{
+    match crate::input::read_number(word) {
+        Number::Value(v) => v,
+        Number::Other => 0,
     }
 }
 

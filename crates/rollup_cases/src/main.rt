@@ -48,14 +48,6 @@ fn mask(v: u32) -> u8 {
     if v < 256 { v as u8 } else { 0 }
 }
 
-// A number of 64 bits: 0 where the word is none.
-fn number(word: &[u8]) -> u64 {
-    match cases::input::read_number(word) {
-        cases::input::Number::Value(v) => v,
-        cases::input::Number::Other => 0,
-    }
-}
-
 // The head of a line: its ten numbers, those that are signed as the unsigned ones of the same bits.
 fn head_line(line: &[u8]) -> Accumulator {
     let form = form(text::precision(text::word(line, 1)));
@@ -64,13 +56,13 @@ fn head_line(line: &[u8]) -> Accumulator {
         form,
         allowed: mask(text::precision(text::word(line, 2))),
         value_type: text::precision(text::word(line, 3)),
-        num_values: number(text::word(line, 4)),
+        num_values: text::number(text::word(line, 4)),
         precision: text::precision(text::word(line, 5)),
         sparse_precision: text::precision(text::word(line, 6)),
         sparse_size: text::precision(text::word(line, 7)),
-        sparse_len: number(text::word(line, 8)) as usize,
-        sparse_bytes: number(text::word(line, 9)) as usize,
-        pending_len: number(text::word(line, 10)) as usize,
+        sparse_len: text::number(text::word(line, 8)) as usize,
+        sparse_bytes: text::number(text::word(line, 9)) as usize,
+        pending_len: text::number(text::word(line, 10)) as usize,
     }
 }
 
@@ -240,7 +232,7 @@ fn lend(text: &[u8], start: usize, r: usize, k: usize, w: usize, s: usize) -> us
 fn size(word: &[u8], most: usize) -> usize
     ensures { λ r. ⌜ r ≤ most ⌝ }
 {
-    let v = number(word) as usize;
+    let v = text::number(word) as usize;
     if v < most { v } else { most }
 }
 

@@ -1,3 +1,4 @@
+-- `calls` meets its contract and ends: a line ends inside the text, and the next one starts behind it; lent memory keeps its lengths.
 use mathlib.Core.Path.{_≡_}
 use Prim.Native.Nat.{_+_, _-_, _≤_}
 use lib.ListN.{length}
@@ -5,11 +6,6 @@ use native.Mathlib.Omega.{arith}
 use borrow.Author.Needs.{needs}
 use Rattle.rollup_cases.proofs.calls.Statement.{statement}
 use Rattle.rollup_cases.proofs.calls.Tie as tie
-use Rattle.rollup_cases.proofs.calls.Reads as reads
-use Rattle.rollup_cases.proofs.calls.Lts as lts
-use Rattle.cases.proofs.input.find.Reads as find-reads
-use Rattle.rollup.proofs.accumulator.Accumulator.new.Reads as new-reads
-use Rattle.rollup_cases.proofs.case.Reads as case-reads
 
 abbrev Inv-loop : tie.InvT-loop
 Inv-loop text start registers₀ sparse₀ pending₀ scratch₀ head₀ at₀ registers sparse pending scratch head at =
@@ -19,86 +15,66 @@ abbrev μ-loop : tie.MeasureT-loop
 μ-loop text start registers₀ sparse₀ pending₀ scratch₀ head₀ at₀ registers sparse pending scratch head at =
     length text + 1 - at
 
--- src/main.rt:196:9
 new-requires : tie.Need-new-requires Inv-loop μ-loop
 new-requires c κs = search needs
 
--- src/main.rt:198:5
 loop-holds : tie.Need-loop-holds Inv-loop μ-loop
 loop-holds c = search needs
 
--- src/main.rt:199:12
 shared-slice-read-if1 : tie.Need-shared-slice-read-if1 Inv-loop μ-loop
 shared-slice-read-if1 c = search needs
 
--- src/main.rt:200:13
 same-length : tie.Need-same-length Inv-loop μ-loop
 same-length c = search needs
 
--- src/main.rt:200:13
 same-length-2 : tie.Need-same-length-2 Inv-loop μ-loop
 same-length-2 c = search needs
 
--- src/main.rt:200:13
 same-length-3 : tie.Need-same-length-3 Inv-loop μ-loop
 same-length-3 c = search needs
 
--- src/main.rt:200:13
 same-length-4 : tie.Need-same-length-4 Inv-loop μ-loop
 same-length-4 c = search needs
 
--- src/main.rt:200:13
 returns : tie.Need-returns Inv-loop μ-loop
 returns c = search needs
 
--- src/main.rt:202:13
 find-requires : tie.Need-find-requires Inv-loop μ-loop
 find-requires c κs = search needs
 
 add-next : tie.Need-add-next Inv-loop μ-loop
 add-next c = omega (arith, c .find .ensures .inside (omega arith))
 
--- src/main.rt:203:64
 sub-case : tie.Need-sub-case Inv-loop μ-loop
 sub-case c = search needs
 
--- src/main.rt:203:64
 part-case-start : tie.Need-part-case-start Inv-loop μ-loop
 part-case-start c = search needs
 
--- src/main.rt:203:64
 part-case-end : tie.Need-part-case-end Inv-loop μ-loop
 part-case-end c = c .before .before .before .before .find .ensures .inside (omega arith)
 
--- src/main.rt:203:9
 case-requires : tie.Need-case-requires Inv-loop μ-loop
 case-requires c κs = search needs
 
--- src/main.rt:198:5
 loop-less : tie.Need-loop-less Inv-loop μ-loop
 loop-less c = search needs
 
--- src/main.rt:198:5
 loop-again : tie.Need-loop-again Inv-loop μ-loop
 loop-again c = search needs
 
--- src/main.rt:186:1
 same-length-5 : tie.Need-same-length-5 Inv-loop μ-loop
 same-length-5 c = search needs
 
--- src/main.rt:186:1
 same-length-6 : tie.Need-same-length-6 Inv-loop μ-loop
 same-length-6 c = search needs
 
--- src/main.rt:186:1
 same-length-7 : tie.Need-same-length-7 Inv-loop μ-loop
 same-length-7 c = search needs
 
--- src/main.rt:186:1
 same-length-8 : tie.Need-same-length-8 Inv-loop μ-loop
 same-length-8 c = search needs
 
--- src/main.rt:186:1
 returns-2 : tie.Need-returns-2 Inv-loop μ-loop
 returns-2 c = search needs
 

@@ -1,67 +1,49 @@
+-- `lend` meets its contract: the sizes lie inside the arrays.
 use native.Mathlib.Omega.{arith}
 use Rattle.cases.proofs.TextLaws.{front}
 use borrow.Author.Needs.{needs}
 use Rattle.rollup_cases.proofs.lend.Statement.{statement}
 use Rattle.rollup_cases.proofs.lend.Tie as tie
-use Rattle.rollup_cases.proofs.lend.Reads as reads
-use Rattle.rollup_cases.proofs.lend.Lts as lts
-use Rattle.rollup_cases.proofs.calls.Reads as calls-reads
-use Rattle.rollup_cases.proofs.list_cells.Reads as list-cells-reads
-use Rattle.rollup_cases.proofs.register_bytes.Reads as register-bytes-reads
 
--- src/main.rt:232:25
 register-bytes-requires : tie.Need-register-bytes-requires
 register-bytes-requires c κs = search needs
 
--- src/main.rt:233:22
 list-cells-requires : tie.Need-list-cells-requires
 list-cells-requires c κs = search needs
 
--- src/main.rt:234:23
 list-cells-requires-2 : tie.Need-list-cells-requires-2
 list-cells-requires-2 c κs = search needs
 
--- src/main.rt:235:23
 list-cells-requires-3 : tie.Need-list-cells-requires-3
 list-cells-requires-3 c κs = search needs
 
--- src/main.rt:239:9
 array-borrow-prefix-registers : tie.Need-array-borrow-prefix-registers
 array-borrow-prefix-registers c = search needs
 
--- src/main.rt:239:9
 slice-aggregate-calls : tie.Need-slice-aggregate-calls
 slice-aggregate-calls c = front (c .before .before .before .before .before .before .args .r) (c .before .before .before .before .register-bytes .result) (omega (arith, c .before .before .before .before .register-bytes .ensures, c .before .before .before .before .before .before .pre .0)) .1
 
--- src/main.rt:240:9
 array-borrow-prefix-sparse : tie.Need-array-borrow-prefix-sparse
 array-borrow-prefix-sparse c = search needs
 
--- src/main.rt:240:9
 slice-aggregate-calls-2 : tie.Need-slice-aggregate-calls-2
 slice-aggregate-calls-2 c = front (c .before .before .before .before .before .before .before .args .k) (c .before .before .before .before .list-cells .result) (omega (arith, c .before .before .before .before .list-cells .ensures, c .before .before .before .before .before .before .before .pre .1)) .1
 
--- src/main.rt:241:9
 array-borrow-prefix-pending : tie.Need-array-borrow-prefix-pending
 array-borrow-prefix-pending c = search needs
 
--- src/main.rt:241:9
 slice-aggregate-calls-3 : tie.Need-slice-aggregate-calls-3
 slice-aggregate-calls-3 c = front (c .before .before .before .before .before .before .before .before .args .w) (c .before .before .before .before .list-cells2 .result) (omega (arith, c .before .before .before .before .list-cells2 .ensures, c .before .before .before .before .before .before .before .before .pre .2)) .1
 
--- src/main.rt:242:9
 array-borrow-prefix-scratch : tie.Need-array-borrow-prefix-scratch
 array-borrow-prefix-scratch c = search needs
 
--- src/main.rt:242:9
 slice-aggregate-calls-4 : tie.Need-slice-aggregate-calls-4
 slice-aggregate-calls-4 c = front (c .before .before .before .before .before .before .before .before .before .args .s) (c .before .before .before .before .list-cells3 .result) (omega (arith, c .before .before .before .before .list-cells3 .ensures, c .before .before .before .before .before .before .before .before .before .pre .3)) .1
 
--- src/main.rt:236:5
 calls-requires : tie.Need-calls-requires
 calls-requires c κs = search needs
 
--- src/main.rt:228:1
 returns : tie.Need-returns
 returns c = search needs
 

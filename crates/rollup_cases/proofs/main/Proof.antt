@@ -1,55 +1,39 @@
+-- `main` is safe: the count that `read_all` answers lies inside the buffer.
 use Rattle.cases.proofs.InputLaws.{streamed}
 use borrow.Author.Needs.{needs}
 use Rattle.rollup_cases.proofs.main.Statement.{statement}
 use Rattle.rollup_cases.proofs.main.Tie as tie
-use Rattle.rollup_cases.proofs.main.Reads as reads
-use Rattle.rollup_cases.proofs.main.Lts as lts
-use Rattle.cases.proofs.input.read_all.Reads as read-all-reads
-use Rattle.io.proofs.write_all.Reads as write-all-reads
-use Rattle.rollup_cases.proofs.all_cases.Reads as all-cases-reads
-use Rattle.rollup_cases.proofs.stream_bytes.Reads as stream-bytes-reads
 
--- src/main.rt:287:19
 stream-bytes-requires : tie.Need-stream-bytes-requires
 stream-bytes-requires c κs = search needs
 
--- src/main.rt:288:50
 slice-aggregate-read-all : tie.Need-slice-aggregate-read-all
 slice-aggregate-read-all c = search needs
 
--- src/main.rt:288:9
 read-all-requires : tie.Need-read-all-requires
 read-all-requires c κs = search needs
 
--- src/main.rt:289:35
 enum-known-r : tie.Need-enum-known-r
 enum-known-r c = search needs
 
--- src/main.rt:292:13
 slice-aggregate-write-all : tie.Need-slice-aggregate-write-all
 slice-aggregate-write-all c = search needs
 
--- src/main.rt:290:9
 write-all-requires : tie.Need-write-all-requires
 write-all-requires c κs = search needs
 
--- src/main.rt:294:9
 returns : tie.Need-returns
 returns c = search needs
 
--- src/main.rt:296:15
 array-share-prefix-buf : tie.Need-array-share-prefix-buf
 array-share-prefix-buf c = streamed (c .before .before .before .before .read-all .last .1 .0) (c .before .before .before .before .read-all .result) (c .before .r .given .0 .0) (c .before .r .given .1) (c .before .before .before .before .read-all .ensures) .0
 
--- src/main.rt:296:15
 slice-aggregate-all-cases : tie.Need-slice-aggregate-all-cases
 slice-aggregate-all-cases c = streamed (c .before .before .before .before .before .read-all .last .1 .0) (c .before .before .before .before .before .read-all .result) (c .before .before .r .given .0 .0) (c .before .before .r .given .1) (c .before .before .before .before .before .read-all .ensures) .1
 
--- src/main.rt:296:5
 all-cases-requires : tie.Need-all-cases-requires
 all-cases-requires c κs = search needs
 
--- src/main.rt:286:1
 returns-2 : tie.Need-returns-2
 returns-2 c = search needs
 

@@ -1,4 +1,6 @@
--- `word` is safe: a word starts inside the line, and so ends inside it.
+-- `word` meets its contract: the part from the word's start to the next blank.
+use denote.Ref.{now}
+use Rattle.cases.proofs.TextLaws.{word-part}
 use borrow.Author.Needs.{needs}
 use Rattle.cases.proofs.text.word.Statement.{statement}
 use Rattle.cases.proofs.text.word.Tie as tie
@@ -16,10 +18,10 @@ part-result-start : tie.Need-part-result-start
 part-result-start c = search needs
 
 part-result-end : tie.Need-part-result-end
-part-result-end c = c .find .ensures .inside (c .before .word-start .ensures)
+part-result-end c = c .find .ensures .inside (c .before .word-start .ensures .inside)
 
 returns : tie.Need-returns
-returns c = search needs
+returns c = word-part (now (c .before .before .before .before .args .line)) (c .before .before .before .before .args .k) (c .before .before .word-start .result) (c .before .find .result) (c .before .before .word-start .ensures) (c .before .find .ensures .place)
 
 pub word-spec : {M : Type 1} → statement M
 word-spec =
