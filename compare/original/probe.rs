@@ -1,4 +1,3 @@
-
 // ---- What follows is no part of the original: `prepare` puts it behind a copy, so that it can read and set private fields.
 
 /// What an accumulator holds. `form` is 0 (unstarted), 1 (sparse), 2 (dense) or 3 (handed to the sketch).

@@ -390,7 +390,7 @@ fn examples(made: &mut Made) {
     made.add(0, &dense((10, 10), &registers(10, &[(1023, 55)])));
     made.add(0, &list((10, 10), &[1]));
     assert_eq!(made.roll.registers[1], 64);
-    made.all.remark("E7: 12 list bytes at p = 4 are kept as a list by the first state");
+    made.all.remark("12 list bytes at p = 4, which is L, are kept as a list by the first state");
     made.fresh(4);
     made.add(0, &list((4, 9), &upto(0, 12)));
     made.form(SPARSE);
