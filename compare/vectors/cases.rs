@@ -1,19 +1,5 @@
-//! What the makers of vectors share: a stand-in for the original's error type, and cases with their answers.
-
-pub mod error {
-    //! Stand-in for the original's error type: what `proto.rs` and `encoding.rs` name of it, and no more.
-
-    #[allow(dead_code)]
-    #[derive(Debug)]
-    pub enum Error {
-        Proto(&'static str),
-        InvalidState(String),
-        CorruptSparseData(&'static str),
-        IncompatiblePrecision { this: (i32, i32), other: (i32, i32) },
-    }
-
-    pub type Result<T> = std::result::Result<T, Error>;
-}
+//! What the makers of vectors share: values, numbers by chance, and cases with their answers.
+#![allow(dead_code)]
 
 use std::collections::BTreeMap;
 
@@ -28,6 +14,43 @@ pub fn unhex(text: &str) -> Vec<u8> {
         .step_by(2)
         .map(|i| u8::from_str_radix(&text[i..i + 2], 16).expect("hexadecimal"))
         .collect()
+}
+
+/// A list in a case or an answer.
+pub fn text(list: &[u32]) -> String {
+    if list.is_empty() {
+        return ".".to_string();
+    }
+    list.iter().map(u32::to_string).collect::<Vec<_>>().join(",")
+}
+
+/// Numbers by chance, the same in each run.
+pub struct Chance(pub u64);
+
+impl Chance {
+    /// A number below n (xorshift, Marsaglia 2003).
+    pub fn below(&mut self, n: u64) -> u64 {
+        self.0 ^= self.0 << 13;
+        self.0 ^= self.0 >> 7;
+        self.0 ^= self.0 << 17;
+        (self.0 >> 11) % n
+    }
+
+    pub fn byte(&mut self) -> u8 {
+        self.below(256) as u8
+    }
+}
+
+/// The precisions p and s.
+pub type Pair = (i32, i32);
+
+pub fn mark((p, s): Pair) -> u32 {
+    1 << s.max(p + 6)
+}
+
+/// The marked value of an index and an m.
+pub fn marked(pair: Pair, index: u32, m: u32) -> u32 {
+    mark(pair) + 64 * index + m
 }
 
 /// Cases and what must be printed for each, a line each.
@@ -46,24 +69,30 @@ impl Cases {
     }
 
     pub fn case(&mut self, kind: &str, operands: &str, answer: &str) {
-        self.cases += format!("{kind} {operands}").trim_end();
-        self.cases += "\n";
-        self.answers += answer;
-        self.answers += "\n";
         let class = match answer.strip_prefix("refused ") {
             Some(n) => format!("{kind} refused {n}"),
             None => format!("{kind} answered"),
         };
+        self.counted(kind, operands, answer, class);
+    }
+
+    /// A case that is counted as one of a class.
+    pub fn counted(&mut self, kind: &str, operands: &str, answer: &str, class: String) {
+        self.cases += format!("{kind} {operands}").trim_end();
+        self.cases += "\n";
+        self.answers += answer;
+        self.answers += "\n";
         *self.counts.entry(class).or_default() += 1;
     }
 
-    /// Writes the two files that the program's arguments name, and prints how many cases of each kind there are.
-    pub fn write(&self) {
+    /// Writes the two files that the program's arguments name, and prints how many cases of each kind there are. The program reads
+    /// fewer than `most` bytes.
+    pub fn write(&self, most: usize) {
         let mut files = std::env::args().skip(1);
         let (Some(cases), Some(answers), None) = (files.next(), files.next(), files.next()) else {
             panic!("two files to write: the cases and the answers");
         };
-        assert!(self.cases.len() <= 65536, "the program reads at most 65,536 bytes, not {}", self.cases.len());
+        assert!(self.cases.len() < most, "the program reads fewer than {most} bytes, not {}", self.cases.len());
         std::fs::write(cases, &self.cases).expect("the cases are written");
         std::fs::write(answers, &self.answers).expect("the answers are written");
         for (class, n) in &self.counts {

@@ -7,6 +7,7 @@ mod cases;
 mod encoding;
 #[allow(dead_code)]
 mod proto;
+mod stand_in;
 
 mod taken {
     use crate::encoding::Sparse;
@@ -25,9 +26,9 @@ mod taken {
     }
 }
 
-use cases::error::{self, Error};
-use cases::{hex, unhex, Cases};
+use cases::{hex, mark, marked, text, unhex, Cases, Chance, Pair};
 use encoding::{Normal, Sparse};
+use stand_in::error::{self, Error};
 use std::collections::BTreeSet;
 
 /// Document 01's number for a message of the original.
@@ -38,14 +39,6 @@ fn number(e: &Error) -> u8 {
         Error::CorruptSparseData("value out of range") => 20,
         other => panic!("no number for {other:?}"),
     }
-}
-
-/// A list in a case or an answer.
-fn text(list: &[u32]) -> String {
-    if list.is_empty() {
-        return ".".to_string();
-    }
-    list.iter().map(u32::to_string).collect::<Vec<_>>().join(",")
 }
 
 // ---- the original's answers
@@ -93,35 +86,6 @@ fn registers_answer(p: i32, bytes: &[u8]) -> String {
     let registers = &bytes[..1 << p];
     let count = registers.iter().filter(|r| **r != 0).count();
     format!("{} {count} {}", hex(bytes), registers.iter().max().expect("a register"))
-}
-
-// ---- numbers by chance, the same in each run
-
-struct Chance(u64);
-
-impl Chance {
-    /// A number below n (xorshift, Marsaglia 2003).
-    fn below(&mut self, n: u64) -> u64 {
-        self.0 ^= self.0 << 13;
-        self.0 ^= self.0 >> 7;
-        self.0 ^= self.0 << 17;
-        (self.0 >> 11) % n
-    }
-
-    fn byte(&mut self) -> u8 {
-        self.below(256) as u8
-    }
-}
-
-type Pair = (i32, i32);
-
-fn mark((p, s): Pair) -> u32 {
-    1 << s.max(p + 6)
-}
-
-/// The marked value of an index and an m.
-fn marked(pair: Pair, index: u32, m: u32) -> u32 {
-    mark(pair) + 64 * index + m
 }
 
 struct Made {
@@ -534,5 +498,5 @@ fn main() {
     sorting(&mut made);
     merging(&mut made);
     registers(&mut made);
-    made.all.write();
+    made.all.write(65536);
 }

@@ -5,10 +5,11 @@
 mod cases;
 #[allow(dead_code)]
 mod proto;
+mod stand_in;
 
-use cases::error::{self, Error};
 use cases::{hex, unhex, Cases};
 use proto::StateView;
+use stand_in::error::{self, Error};
 
 /// Document 01's number for a message of the original.
 fn number(e: &Error) -> u8 {
@@ -463,5 +464,5 @@ fn main() {
     writing(&mut made);
     damaged(&mut made);
     short(&mut made);
-    made.all.write();
+    made.all.write(65536);
 }

@@ -5,8 +5,8 @@ use mathlib.Core.List.{List}
 use mathlib.Core.Bool.{Bool, true, false, true≢false}
 use native.Mathlib.Omega.{arith}
 use lib.ListN.{length, take, length-take}
-use lib.Seq.{length-take-le}
 use Rattle.io.specs.Counts.{Counts}
+use Rattle.cases.proofs.TextLaws.{front}
 use Rattle.wire.specs.Reading.{Read, got, refused}
 use Rattle.lists.specs.declared.decoding.Decoded.{Decoded}
 use Rattle.lists.specs.declared.decoding.Decoded.the-variants.{Done, Refused}
@@ -19,21 +19,12 @@ use Rattle.lists.specs.Merging.{EncodePre, MergePre}
 use Rattle.lists.specs.Registers.{registerBytes, registersOf, largest, Holds, BothHold, LowerPre, DowngradePre, SetListPre, SetListLowerPre}
 use Rattle.lists.proofs.MergeLaws.{length-encode}
 use Rattle.lists_cases.specs.Tests.{Mergeable, Insertable}
-use Rattle.lists_cases.specs.declared.text.Listed.{Listed}
-use Rattle.lists_cases.specs.declared.text.Listed.the-variants.{Count}
-use Rattle.lists_cases.specs.Text.{ListedPost}
 
 -- ---- the front that an answer counts
-
-pub front : (n : ℕ) (out : List ℕ) → n ≤ length out → Counts n out
-front n out h = (h, sym (length-take-le n out h))
 
 -- Values that stand in the first cells.
 pub filled : (n : ℕ) (out vs : List ℕ) → n ≡ length vs → take n out ≡ vs → Counts n out
 filled n out vs e t = front n out (omega (arith, e, ap length t, length-take n out))
-
-pub listed : (out : List ℕ) (r : Listed) (n : ℕ) → r ≡ Count n → ListedPost out r → Counts n out
-listed out r n e p = subst (ListedPost out) e p
 
 abbrev doneCount : Decoded → ℕ
 doneCount (Done n) = n

@@ -8,6 +8,7 @@ ghost use lib.ListN.{length};
 ghost use Rattle.lists.specs.Values.{SparseFits, valid};
 ghost use Rattle.lists.specs.Registers.{LowerPre};
 ghost use Rattle.lists_cases.specs.Tests.{Mergeable, Insertable};
+use cases::text;
 use libc::STDERR_FILENO;
 use libc::STDIN_FILENO;
 use libc::STDOUT_FILENO;
@@ -15,7 +16,6 @@ use lists::decoding::Decoded;
 use lists::values::Sparse;
 
 mod tests;
-mod text;
 
 // What an output is filled with, to see which of its bytes are written.
 const FILL: u8 = 165;

@@ -2,6 +2,7 @@
 // vectors were made, is said in compare/vectors/README.md.
 ghost use Prim.Native.Nat.{_≤_};
 ghost use lib.ListN.{length};
+use cases::text;
 use libc::STDERR_FILENO;
 use libc::STDIN_FILENO;
 use libc::STDOUT_FILENO;
@@ -14,30 +15,9 @@ use wire::varint::Varint;
 // What an output is filled with, to see which of its bytes are written.
 const FILL: u8 = 165;
 
-fn end_line() {
-    io::write_all(STDOUT_FILENO, b"\n");
-}
-
-fn space() {
-    io::write_all(STDOUT_FILENO, b" ");
-}
-
-fn bad_case() {
-    io::write_all(STDOUT_FILENO, b"bad case\n");
-}
-
-fn print_refused(n: u8) {
-    io::write_all(STDOUT_FILENO, b"refused ");
-    io::print_decimal(STDOUT_FILENO, n as u64);
-}
-
 fn print_signed(v: u64) {
     cases::output::print_signed(STDOUT_FILENO, v);
-    space();
-}
-
-fn print_hex(bytes: &[u8]) {
-    cases::output::print_hex(STDOUT_FILENO, bytes);
+    text::space();
 }
 
 // A data field: `-` where it is absent, `.` where it is empty.
@@ -47,7 +27,7 @@ fn print_part(present: bool, bytes: &[u8]) {
     } else if bytes.len() == 0 {
         io::write_all(STDOUT_FILENO, b".");
     } else {
-        print_hex(bytes);
+        text::print_hex(bytes);
     }
 }
 
@@ -61,7 +41,7 @@ fn print_fields(bytes: &[u8], f: Fields) {
     print_signed(cases::output::widened(h.precision));
     print_signed(cases::output::widened(h.sparse_precision));
     print_part(h.data_present, wire::state::data(bytes, f));
-    space();
+    text::space();
     print_part(h.sparse_data_present, wire::state::sparse_data(bytes, f));
 }
 
@@ -69,9 +49,9 @@ fn parse_case(bytes: &[u8]) {
     let r = wire::state::parse(bytes);
     match r {
         Parsed::Read(f) => print_fields(bytes, f),
-        Parsed::Refused(n) => print_refused(n),
+        Parsed::Refused(n) => text::print_refused(n),
     }
-    end_line();
+    text::end_line();
 }
 
 fn varint_case(at: usize, bytes: &[u8]) {
@@ -79,29 +59,29 @@ fn varint_case(at: usize, bytes: &[u8]) {
     match r {
         Varint::Value(v, next) => {
             io::print_decimal(STDOUT_FILENO, v);
-            space();
+            text::space();
             io::print_decimal(STDOUT_FILENO, next.at as u64);
         }
-        Varint::Cut => print_refused(3),
-        Varint::Long => print_refused(4),
+        Varint::Cut => text::print_refused(3),
+        Varint::Long => text::print_refused(4),
     }
-    end_line();
+    text::end_line();
 }
 
 fn put_case(v: u64) {
     let mut out = [0u8; 10];
     let n = wire::varint::put_varint(&mut out, 0, v);
-    print_hex(&out[..n]);
-    end_line();
+    text::print_hex(&out[..n]);
+    text::end_line();
 }
 
 fn length_case(v: u64) {
     if v < 0x1_0000_0000 {
         let n = wire::varint::varint_len(v as u32);
         io::print_decimal(STDOUT_FILENO, n as u64);
-        end_line();
+        text::end_line();
     } else {
-        bad_case();
+        text::bad_case();
     }
 }
 
@@ -110,14 +90,14 @@ fn print_touched(rest: &[u8]) {
     if !cases::output::all_are(rest, FILL) {
         io::write_all(STDOUT_FILENO, b" touched");
     }
-    end_line();
+    text::end_line();
 }
 
 // The first n bytes, and whether those behind them are as they were.
 fn print_written(n: usize, out: &[u8])
     requires { ⌜ n ≤ length (now out) ⌝ }
 {
-    print_hex(&out[..n]);
+    text::print_hex(&out[..n]);
     print_touched(&out[n..]);
 }
 
@@ -125,18 +105,18 @@ fn print_written(n: usize, out: &[u8])
 fn encode_case(size: usize, bytes: &[u8], out: &mut [u8]) {
     let p = wire::state::parse(bytes);
     let Parsed::Read(f) = p else {
-        bad_case();
+        text::bad_case();
         return;
     };
     if out.len() < size {
-        bad_case();
+        text::bad_case();
         return;
     }
     let r = wire::encoding::encode(bytes, f, &mut out[..size]);
     match r {
         Encoded::Written(n) => print_written(n, &out[..]),
         Encoded::Short => {
-            print_refused(23);
+            text::print_refused(23);
             print_touched(&out[..]);
         }
     }
@@ -157,7 +137,7 @@ fn case_with_bytes(kind: u8, v: u64, word: &[u8]) {
     let mut bytes = io::buffer();
     let r = cases::input::read_bytes(word, &mut bytes);
     let cases::input::Bytes::Count(n) = r else {
-        bad_case();
+        text::bad_case();
         return;
     };
     byte_case(kind, v, &bytes[..n]);
@@ -177,7 +157,7 @@ fn case_with_number(kind: u8, rest: &[u8]) {
     let k = cases::input::find(rest, 0, b' ');
     let r = cases::input::read_number(&rest[..k]);
     let cases::input::Number::Value(v) = r else {
-        bad_case();
+        text::bad_case();
         return;
     };
     match kind {
@@ -190,18 +170,18 @@ fn case_with_number(kind: u8, rest: &[u8]) {
 // A line: a letter, and behind a blank its operands.
 fn case(line: &[u8]) {
     if line.len() == 0 {
-        bad_case();
+        text::bad_case();
         return;
     }
     let kind = line[0];
     match kind {
         b'#' => {
             io::write_all(STDOUT_FILENO, line);
-            end_line();
+            text::end_line();
         }
         b'p' => case_with_bytes(kind, 0, behind(line, 1)),
         b'v' | b'w' | b'l' | b'e' => case_with_number(kind, behind(line, 1)),
-        _ => bad_case(),
+        _ => text::bad_case(),
     }
 }
 

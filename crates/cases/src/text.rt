@@ -1,18 +1,21 @@
 // Reading the operands of a case, and printing answers: words between blanks, decimal numbers, lists of them.
-ghost use Prim.Native.Nat.{_≤_};
-ghost use lib.ListN.{length};
-ghost use Rattle.lists_cases.specs.Text.{ListedPost};
-use cases::input::Number;
+ghost use mathlib.Core.Path.{_≡_};
+ghost use mathlib.Core.Option.{some};
+ghost use Prim.Native.Nat.{_+_, _≤_};
+ghost use lib.ListN.{length, drop};
+ghost use Rattle.cases.specs.Input.{decimalOf, below64};
+ghost use Rattle.cases.specs.Text.{wordOf, WordStart, valueMeans, below32, orZero, ListedPost};
+use crate::input::Number;
 use libc::STDOUT_FILENO;
 
 // A number of 32 bits, or a word that is none.
-pub(crate) enum Value {
+pub enum Value {
     Is(u32),
     Other,
 }
 
 // How many values a list has, or a word that is no list, or one too long for the memory that is lent.
-pub(crate) enum Listed {
+pub enum Listed {
     Count(usize),
     Other,
 }
@@ -20,19 +23,19 @@ pub(crate) enum Listed {
 // Where the next word starts: behind the blank at `end`, or at the end of the line.
 fn next_start(line: &[u8], end: usize) -> usize
     requires { ⌜ end ≤ length (now line) ⌝ }
-    ensures { λ r. ⌜ r ≤ length (now (line .entry)) ⌝ }
+    ensures { λ r. ⌜ (r ≤ length (now (line .entry))) × (drop r (now (line .entry)) ≡ drop (end + 1) (now (line .entry))) ⌝ }
 {
     if end < line.len() { end + 1 } else { end }
 }
 
 // Where the word that has k others before it starts.
 fn word_start(line: &[u8], k: usize) -> usize
-    ensures { λ r. ⌜ r ≤ length (now (line .entry)) ⌝ }
+    ensures { λ r. ⌜ WordStart (now (line .entry)) k r ⌝ }
 {
     let mut start: usize = 0;
     let mut i: usize = 0;
     while i < k {
-        let end = cases::input::find(line, start, b' ');
+        let end = crate::input::find(line, start, b' ');
         start = next_start(line, end);
         i += 1;
     }
@@ -40,28 +43,50 @@ fn word_start(line: &[u8], k: usize) -> usize
 }
 
 // The word that has k others before it: no bytes where the line has no such word.
-pub(crate) fn word(line: &[u8], k: usize) -> &[u8] {
+pub fn word(line: &[u8], k: usize) -> &[u8]
+    ensures { λ r. ⌜ now r ≡ wordOf k (now (line .entry)) ⌝ }
+{
     let start = word_start(line, k);
-    let end = cases::input::find(line, start, b' ');
+    let end = crate::input::find(line, start, b' ');
     &line[start..end]
 }
 
-pub(crate) fn read_value(word: &[u8]) -> Value {
-    let r = cases::input::read_number(word);
-    let Number::Value(v) = r else {
-        return Value::Other;
-    };
+// Of the numbers those that 32 bits hold.
+fn value_of(v: u64) -> Value
+    ensures { λ r. ⌜ valueMeans r ≡ below32 (some v) ⌝ }
+{
     if v < 0x1_0000_0000 {
         return Value::Is(v as u32);
     }
     Value::Other
 }
 
-// A precision: 0, which no list has, where the word is no number.
-pub(crate) fn precision(word: &[u8]) -> u32 {
+pub fn read_value(word: &[u8]) -> Value
+    ensures { λ r. ⌜ valueMeans r ≡ below32 (decimalOf (now (word .entry))) ⌝ }
+{
+    match crate::input::read_number(word) {
+        Number::Value(v) => value_of(v),
+        Number::Other => Value::Other,
+    }
+}
+
+// A number of 32 bits: 0 where the word is none. No list has the precision 0.
+pub fn precision(word: &[u8]) -> u32
+    ensures { λ r. ⌜ r ≡ orZero (below32 (decimalOf (now (word .entry)))) ⌝ }
+{
     match read_value(word) {
         Value::Is(v) => v,
         Value::Other => 0,
+    }
+}
+
+// A number of 64 bits: 0 where the word is none.
+pub fn number(word: &[u8]) -> u64
+    ensures { λ r. ⌜ r ≡ orZero (below64 (decimalOf (now (word .entry)))) ⌝ }
+{
+    match crate::input::read_number(word) {
+        Number::Value(v) => v,
+        Number::Other => 0,
     }
 }
 
@@ -75,7 +100,7 @@ fn read_values(word: &[u8], out: &mut [u32]) -> Listed
         if out.len() <= n {
             return Listed::Other;
         }
-        let end = cases::input::find(word, at, b',');
+        let end = crate::input::find(word, at, b',');
         let r = read_value(&word[at..end]);
         let Value::Is(v) = r else {
             return Listed::Other;
@@ -88,7 +113,7 @@ fn read_values(word: &[u8], out: &mut [u32]) -> Listed
 }
 
 // A list: `.` is the empty one.
-pub(crate) fn read_list(word: &[u8], out: &mut [u32]) -> Listed
+pub fn read_list(word: &[u8], out: &mut [u32]) -> Listed
     ensures { λ r. ⌜ ListedPost (now (out .exit)) r ⌝ }
 {
     if word.len() == 0 {
@@ -100,27 +125,32 @@ pub(crate) fn read_list(word: &[u8], out: &mut [u32]) -> Listed
     read_values(word, out)
 }
 
-pub(crate) fn end_line() {
+pub fn end_line() {
     io::write_all(STDOUT_FILENO, b"\n");
 }
 
-pub(crate) fn space() {
+pub fn space() {
     io::write_all(STDOUT_FILENO, b" ");
 }
 
-pub(crate) fn bad_case() {
+pub fn bad_case() {
     io::write_all(STDOUT_FILENO, b"bad case\n");
 }
 
-pub(crate) fn print_number(v: u64) {
+// What a line that only sets something prints.
+pub fn print_ok() {
+    io::write_all(STDOUT_FILENO, b"ok\n");
+}
+
+pub fn print_number(v: u64) {
     io::print_decimal(STDOUT_FILENO, v);
 }
 
-pub(crate) fn print_value(v: u32) {
+pub fn print_value(v: u32) {
     print_number(v as u64);
 }
 
-pub(crate) fn print_bool(b: bool) {
+pub fn print_bool(b: bool) {
     if b {
         io::write_all(STDOUT_FILENO, b"1");
     } else {
@@ -128,17 +158,17 @@ pub(crate) fn print_bool(b: bool) {
     }
 }
 
-pub(crate) fn print_refused(n: u8) {
+pub fn print_refused(n: u8) {
     io::write_all(STDOUT_FILENO, b"refused ");
     print_number(n as u64);
 }
 
-pub(crate) fn print_hex(bytes: &[u8]) {
-    cases::output::print_hex(STDOUT_FILENO, bytes);
+pub fn print_hex(bytes: &[u8]) {
+    crate::output::print_hex(STDOUT_FILENO, bytes);
 }
 
 // A list as `read_list` reads it.
-pub(crate) fn print_list(l: &[u32]) {
+pub fn print_list(l: &[u32]) {
     if l.len() == 0 {
         io::write_all(STDOUT_FILENO, b".");
         return;

@@ -3,10 +3,10 @@ use mathlib.Core.Path.{_≡_}
 use Prim.Native.Nat.{_+_, _-_, _≤_}
 use native.Mathlib.Omega.{arith}
 use lib.ListN.{length, length-set}
-use Rattle.lists_cases.proofs.Laws.{front}
+use Rattle.cases.proofs.TextLaws.{front}
 use borrow.Author.Needs.{needs}
-use Rattle.lists_cases.proofs.text.read_values.Statement.{statement}
-use Rattle.lists_cases.proofs.text.read_values.Tie as tie
+use Rattle.cases.proofs.text.read_values.Statement.{statement}
+use Rattle.cases.proofs.text.read_values.Tie as tie
 
 abbrev Inv-loop : tie.InvT-loop
 Inv-loop word out₀ n₀ at₀ out n at = (n ≤ length out) × (length out ≡ length out₀)

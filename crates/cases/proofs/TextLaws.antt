@@ -1,0 +1,123 @@
+-- Laws of words and of numbers of 32 bits; and that the front that a count marks lies inside the memory that was lent.
+use Prim.Native.Nat.{ℕ, zero, suc, _+_, _-_, _^_, _<_, _≤_}
+use native.Mathlib.Numerals.{add-one}
+use native.Mathlib.Omega.{arith}
+use mathlib.Core.Path.{_≡_, refl, sym, ap, _∙_, subst}
+use mathlib.Core.List.{List, []}
+use mathlib.Core.Bool.{Bool, true, false, true≢false, cond}
+use mathlib.Core.Option.{Option, none, some}
+use lib.Dec.{ltb}
+use lib.ListN.{length, take, drop, drop-of-length-le}
+use lib.Seq.{length-take-le, drop-drop}
+use borrow.Author.Tests.{lt-ltb, le-ltb, ltb-false}
+use Rattle.io.specs.Counts.{Counts}
+use Rattle.cases.specs.declared.input.Number.{Number}
+use Rattle.cases.specs.declared.input.Number.the-variants.{Value as NumberValue, Other as NumberOther}
+use Rattle.cases.specs.declared.text.Value.{Value}
+use Rattle.cases.specs.declared.text.Listed.{Listed}
+use Rattle.cases.specs.declared.text.Listed.the-variants.{Count}
+use Rattle.cases.specs.Input.{upTo, below64, numberMeans}
+use Rattle.cases.specs.Text.{wordsFrom, wordOf, WordStart, below32, valueMeans, orZero, ListedPost}
+
+-- ---- counts
+
+pub front : (n : ℕ) (out : List ℕ) → n ≤ length out → Counts n out
+front n out h = (h, sym (length-take-le n out h))
+
+pub listed : (out : List ℕ) (r : Listed) (n : ℕ) → r ≡ Count n → ListedPost out r → Counts n out
+listed out r n e p = subst (ListedPost out) e p
+
+-- ---- words
+
+-- Past the end nothing is left, however far.
+pub nothing-left : (line : List ℕ) (end : ℕ) → length line ≤ end → drop end line ≡ drop (end + 1) line
+nothing-left line end h = let past : length line ≤ end + 1 = omega arith in drop-of-length-le line h ∙ sym (drop-of-length-le line past)
+
+pub words-more : (k : ℕ) (l : List ℕ) → 0 < k → wordsFrom k l ≡ wordsFrom (k - 1) (drop (upTo 32 l + 1) l)
+unfolding wordsFrom
+words-more zero l h = let z : ⊥ = omega arith in absurd z
+words-more (suc k) l h = ap (λ (n : ℕ). wordsFrom n (drop (upTo 32 l + 1) l)) (let e : k ≡ suc k - 1 = omega arith in e)
+
+-- A word further on: the next one starts behind the blank.
+pub words-next : (line : List ℕ) (k start end next : ℕ)
+    → 0 < k
+    → end ≡ start + upTo 32 (drop start line)
+    → drop next line ≡ drop (end + 1) line
+    → wordsFrom k (drop start line) ≡ wordsFrom (k - 1) (drop next line)
+words-next line k start end next h e n =
+    words-more k (drop start line) h
+    ∙ ap (wordsFrom (k - 1))
+    (drop-drop (upTo 32 (drop start line) + 1) start line
+    ∙ ap (λ (m : ℕ). drop m line) (let s : start + (upTo 32 (drop start line) + 1) ≡ end + 1 = omega arith in s)
+    ∙ sym n)
+
+words-done : (l : List ℕ) → wordsFrom 0 l ≡ l
+unfolding wordsFrom
+words-done l = refl
+
+pub words-start : (line : List ℕ) (k : ℕ) → wordsFrom k line ≡ wordsFrom (k - 0) (drop 0 line)
+words-start line k = ap (λ (n : ℕ). wordsFrom n line) (let e : k ≡ k - 0 = omega arith in e)
+
+module _ (line : List ℕ) (k i start : ℕ) (whole : wordsFrom k line ≡ wordsFrom (k - i) (drop start line)) where
+  pub words-turn : (end next : ℕ)
+      → i < k
+      → end ≡ start + upTo 32 (drop start line)
+      → drop next line ≡ drop (end + 1) line
+      → wordsFrom k line ≡ wordsFrom (k - (i + 1)) (drop next line)
+  words-turn end next h e n =
+      whole
+      ∙ words-next line (k - i) start end next (omega arith) e n
+      ∙ ap (λ (m : ℕ). wordsFrom m (drop next line)) (let m : k - i - 1 ≡ k - (i + 1) = omega arith in m)
+
+  pub words-end : k ≤ i → start ≤ length line → WordStart line k start
+  words-end h inside = record {
+    inside = inside;
+    rest = sym (whole ∙ ap (λ (m : ℕ). wordsFrom m (drop start line)) (let m : k - i ≡ 0 = omega arith in m) ∙ words-done (drop start line));
+  }
+
+pub word-part : (line : List ℕ) (k start end : ℕ)
+    → WordStart line k start
+    → end ≡ start + upTo 32 (drop start line)
+    → take (end - start) (drop start line) ≡ wordOf k line
+word-part line k start end w e =
+    ap (λ (n : ℕ). take n (drop start line)) (let n : end - start ≡ upTo 32 (drop start line) = omega arith in n)
+    ∙ ap (λ (l : List ℕ). take (upTo 32 l) l) (w .rest)
+
+-- ---- numbers of 32 bits
+
+abbrev isSome : Option ℕ → Bool
+isSome none = false
+isSome (some v) = true
+
+same-number : (o : Option ℕ) (v : ℕ) → some v ≡ below64 o → some v ≡ o
+same-number none v e = absurd (true≢false (ap isSome e))
+same-number (some w) v e = go (ltb w (2 ^ 64)) e
+  where
+    go : (t : Bool) → some v ≡ cond t (some w) none → some v ≡ some w
+    go true e = e
+    go false e = absurd (true≢false (ap isSome e))
+
+no-number : (o : Option ℕ) → none ≡ below64 o → none ≡ below32 o
+no-number none e = refl
+no-number (some w) e = go (ltb w (2 ^ 64)) refl e
+  where
+    go : (t : Bool) → ltb w (2 ^ 64) ≡ t → none ≡ cond t (some w) none → none ≡ below32 (some w)
+    go true e n = absurd (true≢false (sym (ap isSome n)))
+    go false e n = rw (le-ltb w (2 ^ 32) (omega (arith, ltb-false w (2 ^ 64) e)))
+
+pub value-read : (o : Option ℕ) (r : Number) (v : ℕ) (x : Value)
+    → r ≡ NumberValue v
+    → numberMeans r ≡ below64 o
+    → valueMeans x ≡ below32 (some v)
+    → valueMeans x ≡ below32 o
+value-read o r v x e n m = m ∙ ap below32 (same-number o v (ap numberMeans (sym e) ∙ n))
+
+pub value-none : (o : Option ℕ) (r : Number) → r ≡ NumberOther → numberMeans r ≡ below64 o → none ≡ below32 o
+value-none o r e n = no-number o (ap numberMeans (sym e) ∙ n)
+
+-- The number that was read, or 0.
+pub or-zero : (o : Option ℕ) (r x : Value) → r ≡ x → valueMeans r ≡ o → orZero (valueMeans x) ≡ orZero o
+or-zero o r x e n = ap orZero (ap valueMeans (sym e) ∙ n)
+
+pub number-or-zero : (o : Option ℕ) (r x : Number) → r ≡ x → numberMeans r ≡ o → orZero (numberMeans x) ≡ orZero o
+number-or-zero o r x e n = ap orZero (ap numberMeans (sym e) ∙ n)
