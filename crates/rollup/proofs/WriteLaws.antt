@@ -1,6 +1,6 @@
 -- Writing: the questions one after the other, and what is written. `writeOutcome`, `flushed`, `currentSize`, `stateForm`, `belowLimit` and
 -- `listOutcome` are unfolded here alone.
-use Prim.Native.Nat.{ℕ, _+_, _-_, _*_, _^_, _<_, _≤_}
+use Prim.Native.Nat.{ℕ, _+_, _-_, _^_, _<_, _≤_}
 use mathlib.Core.Path.{_≡_, refl, sym, ap, ap₂, subst, _∙_}
 use mathlib.Core.Bool.{Bool, true, false, cond}
 use mathlib.Core.List.{List, [], _++_, append-assoc, append-nil, List·Permᴰ, Permᴰ·refl}
@@ -8,7 +8,7 @@ use mathlib.Core.Option.{none, some}
 use mathlib.Core.Logic.{⊎-elim}
 use native.Mathlib.Nat.{zero-add}
 use native.Mathlib.Omega.{arith}
-use lib.Dec.{leb, ltb, eqb}
+use lib.Dec.{leb}
 use lib.ListN.{length, take, drop, length-append, length-drop, drop-of-length-le}
 use lib.Seq.{sets-eq, length-sets, take-at, take-all, drop-at, drop-drop, length-take-le}
 use borrow.Rule.Slice.PartMut.{midOf, postOf, putMid}
@@ -37,10 +37,10 @@ use Rattle.rollup.specs.declared.accumulator.Form.the-variants.{Unstarte
 use Rattle.rollup.specs.declared.accumulator.Accumulator.{Accumulator}
 use Rattle.rollup.specs.declared.writing.Written.{Written}
 use Rattle.rollup.specs.Accumulator.{Mem, mem, keptOf, waitingOf, limit, fits}
-use Rattle.rollup.specs.Adding.{isStarted, unchanged, Shows, SameLengths}
+use Rattle.rollup.specs.Adding.{isStarted}
 use Rattle.rollup.specs.Writing.{flushed, currentSize, stateWith, stateForm, belowLimit, unless, writeOutcome, WritePost}
 use Rattle.rollup.specs.WritingPaths.{Writes, viewOf, listOutcome, ValuesPre, FlushPre, FlushPost}
-use Rattle.rollup.proofs.FitLaws.{FitSparse, FitDense, fit-sparse, fit-dense, whole-sparse, limit-small}
+use Rattle.rollup.proofs.FitLaws.{FitSparse, fit-sparse, fit-dense, whole-sparse, limit-small}
 use Rattle.rollup.proofs.SparseLaws.{at-pair, of-pair, counts-short, valid-sort, merged-sort, merge-post}
 
 -- ---- a question that is answered with yes, and one with no

@@ -1,5 +1,5 @@
 -- What is written of a roll-up is read back, and no proper prefix of it is accepted: for readers of what was written.
-use Prim.Native.Nat.{ℕ, _+_, _^_, _<_, _≤_}
+use Prim.Native.Nat.{ℕ, _^_, _<_}
 use mathlib.Core.Path.{_≡_, refl, sym, ap, subst, _∙_}
 use mathlib.Core.Bool.{Bool, true, false, true≢false}
 use mathlib.Core.List.{List, []}

@@ -1,4 +1,4 @@
-// The roll-up: header rules, the accumulator and adding (document 01, modules 5 and 6).
+// The roll-up: header rules, the accumulator, adding and writing (document 01, modules 5 and 6).
 //
 // Ported from src/hll.rs (validation) and src/accumulator.rs of zetasketch-rs at commit 9abe68bf87 (Apache-2.0, see NOTICE), without the
 // fallback sketch, hashing and estimates. Changed: lent slices and counts in the head in the place of `Vec` and scratch swaps, document 01's

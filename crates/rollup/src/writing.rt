@@ -7,7 +7,7 @@ ghost use mathlib.Core.List.{List, []};
 ghost use mathlib.Core.Option.{none, some};
 ghost use mathlib.Core.Bool.{true};
 ghost use Prim.Native.Nat.{ℕ, _≤_};
-ghost use lib.ListN.{length, take};
+ghost use lib.ListN.{length};
 ghost use Rattle.wire.specs.Encoding.{encodeStep};
 ghost use Rattle.lists.specs.Registers.{registersOf};
 ghost use Rattle.rollup.specs.declared.accumulator.Form.the-variants.{Sparse as ListForm};

@@ -1,10 +1,8 @@
 -- Sorting what waits changes nothing of the merge (`flush-post`).
-use Prim.Native.Nat.{_≤_}
 use mathlib.Core.Path.{sym, _∙_, ap}
 use native.Mathlib.Omega.{arith}
 use denote.Ref.{now}
 use lib.ListN.{length}
-use lib.Seq.{length-take-le}
 use Rattle.lists.proofs.OrderLaws.{length-sort}
 use Rattle.rollup.proofs.WriteLaws.{waiting-length, ordered-front, flush-merge, flush-post}
 use borrow.Author.Needs.{needs}

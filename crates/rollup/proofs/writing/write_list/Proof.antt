@@ -1,5 +1,4 @@
 -- 17 (`list-17`); nothing waits, and kept is written (`kept-post`); or the merge is (`flushed-post`).
-use Prim.Native.Nat.{_≤_}
 use mathlib.Core.Path.{refl, sym}
 use native.Mathlib.Omega.{arith}
 use denote.Ref.{now}
