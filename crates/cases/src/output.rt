@@ -85,26 +85,29 @@ pub fn signed(v: u64, out: &mut [u8]) -> usize
     n + 1
 }
 
-pub fn print_signed(fd: i32, v: u64) {
+// The answer of each is whether all was written.
+pub fn print_signed(fd: i32, v: u64) -> bool {
     let mut text = [0u8; 21];
     let n = signed(v, &mut text);
-    io::write_all(fd, &text[..n]);
+    io::write_all(fd, &text[..n])
 }
 
-fn print_some(fd: i32, bytes: &[u8])
+fn print_some(fd: i32, bytes: &[u8]) -> bool
     requires { ⌜ length (now bytes) ≤ 2048 ⌝ }
 {
     let mut text = [0u8; 4096];
     let n = hex(bytes, &mut text);
-    io::write_all(fd, &text[..n]);
+    io::write_all(fd, &text[..n])
 }
 
-pub fn print_hex(fd: i32, bytes: &[u8]) {
+pub fn print_hex(fd: i32, bytes: &[u8]) -> bool {
     let mut at: usize = 0;
     while bytes.len() - at > 2048 {
         let end = at + 2048;
-        print_some(fd, &bytes[at..end]);
+        if !print_some(fd, &bytes[at..end]) {
+            return false;
+        }
         at = end;
     }
-    print_some(fd, &bytes[at..]);
+    print_some(fd, &bytes[at..])
 }
