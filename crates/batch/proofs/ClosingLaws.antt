@@ -5,7 +5,7 @@ use mathlib.Core.List.{List, _++_, List·Memᴰ}
 use mathlib.Core.Bool.{Bool, true, cond}
 use native.Mathlib.Omega.{arith}
 use lib.Dec.{leb}
-use lib.ListN.{length, take}
+use lib.ListN.{length, take, drop, length-take, length-append}
 use borrow.Author.Tests.{le-leb, lt-leb}
 use Rattle.lists.specs.Values.{Pair, register}
 use Rattle.lists.specs.Lists.{allValid}
@@ -16,13 +16,16 @@ use Rattle.rollup.specs.declared.accumulator.Form.{Form}
 use Rattle.rollup.specs.declared.accumulator.Form.the-variants.{Unstarted, Sparse, Dense}
 use Rattle.rollup.specs.declared.accumulator.Accumulator.{Accumulator}
 use Rattle.rollup.specs.Accumulator.{Mem, fits}
+use Rattle.rollup.specs.Writing.{writeOutcome}
 use Rattle.rollup.specs.Calls.{listRegisters, rollupRegisters}
 use Rattle.rollup.proofs.FitLaws.{FitSparse, FitDense, fit-sparse, fit-dense}
 use Rattle.rollup.proofs.KeepsLaws.{valid-append}
 use Rattle.rollup.proofs.AgreementLaws.{row-length, list-row, registers-list, registers-dense}
 use Rattle.batch.specs.declared.closing.Count.{Count}
 use Rattle.batch.specs.declared.closing.Count.the-variants.{Registers, Short}
-use Rattle.batch.specs.Closing.{countFor, ListCountPre}
+use Rattle.batch.specs.declared.closing.Report.{Report}
+use Rattle.batch.specs.Chain.{chainOf}
+use Rattle.batch.specs.Closing.{countFor, ListCountPre, ReportPost}
 
 -- A list's values, set in lent bytes and counted.
 module _ (p s : ℕ) (pair : Pair p s) (l bytes : List ℕ) (ok : allValid p s l ≡ true) (room : registerBytes p ≤ length bytes) where
@@ -73,3 +76,14 @@ module _ (a : Accumulator) (m : Mem) (space : ℕ) where
       ∙ sym
       (ap (λ (t : Bool). cond t (Registers (notZero (rollupRegisters Sparse a m))) Short)
       (le-leb (registerBytes (a .precision)) space (subst (λ (x : ℕ). x ≤ space) f h))))
+
+-- What a report says of the memory that was lent: no more records than cells, and no more bytes written than the output has.
+pub few-records : {batch : List ℕ} {first : Mem} {room cells space : ℕ} {out : List ℕ} {r : Report} {m : Mem} {answers after : List ℕ}
+    → ReportPost batch first room cells space out r m answers after → r .rolled .records ≤ cells
+few-records {batch} {cells = cells} p = omega (arith, p .rolled .records, length-take cells (chainOf batch .states))
+
+pub written-inside : {batch : List ℕ} {first : Mem} {room cells space : ℕ} {out : List ℕ} {r : Report} {m : Mem} {answers after : List ℕ}
+    → ReportPost batch first room cells space out r m answers after → r .written .len ≤ length after
+written-inside {room = room} {out = out} {r = r} p =
+    let bytes = writeOutcome (r .rolled .head) (p .between) room (length out) .bytes in
+    omega (arith, p .written .len, ap length (p .written .output), length-append bytes (drop (length bytes) out))

@@ -32,22 +32,33 @@ fn put_answer(text: &mut [u8], at: usize, ordinal: usize, answer: u8) -> usize
     put_number(text, next, answer as u64, b'\n')
 }
 
-// The answers, some hundreds of lines at a time.
-fn print_answers(answers: &[u8]) -> bool {
-    let mut text = [0u8; 4096];
+// The answers of some records, of which `first` is the first one's ordinal, in one piece.
+fn print_some(answers: &[u8], first: usize) -> bool
+    requires { ⌜ (length (now answers) ≤ 93) × (first ≤ 65537) ⌝ }
+{
+    let mut text = [0u8; 4092];
     let mut at: usize = 0;
     let mut i: usize = 0;
     while i < answers.len() {
-        if 4052 < at {
-            if !io::write_all(STDOUT_FILENO, &text[..at]) {
-                return false;
-            }
-            at = 0;
-        }
-        at = put_answer(&mut text, at, i + 1, answers[i]);
+        at = put_answer(&mut text, at, first + i, answers[i]);
         i += 1;
     }
     io::write_all(STDOUT_FILENO, &text[..at])
+}
+
+// All answers: a write for each line would be a call of the system for each.
+fn print_answers(answers: &[u8]) -> bool
+    requires { ⌜ length (now answers) ≤ 65536 ⌝ }
+{
+    let mut at: usize = 0;
+    while answers.len() - at > 93 {
+        let end = at + 93;
+        if !print_some(&answers[at..end], at + 1) {
+            return false;
+        }
+        at = end;
+    }
+    print_some(&answers[at..], at + 1)
 }
 
 // A line with an ordinal and a number, printed.
@@ -111,13 +122,15 @@ fn print_report(r: Report, answers: &[u8], out: &[u8]) -> bool
     requires { ⌜ (r .rolled .records ≤ length (now answers)) × (r .rolled .records ≤ 65536) × (r .written .len ≤ length (now out)) ⌝ }
 {
     let rolled = r.rolled;
+    let ending = rolled.ending;
+    let not_zero = r.not_zero;
     if !print_answers(&answers[..rolled.records]) {
         return false;
     }
-    if !print_ending(rolled.ending, rolled.records) {
+    if !print_ending(ending, rolled.records) {
         return false;
     }
-    if !print_numbers(rolled.head, r.not_zero) {
+    if !print_numbers(rolled.head, not_zero) {
         return false;
     }
     print_state(r.written, out)

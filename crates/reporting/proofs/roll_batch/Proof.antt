@@ -1,0 +1,63 @@
+-- There are no more records than cells, and what was written lies inside the output.
+use native.Mathlib.Omega.{arith}
+use Rattle.batch.proofs.ClosingLaws.{few-records, written-inside}
+use borrow.Author.Needs.{needs}
+use Rattle.reporting.proofs.roll_batch.Statement.{statement}
+use Rattle.reporting.proofs.roll_batch.Tie as tie
+
+slice-aggregate-roll : tie.Need-slice-aggregate-roll
+slice-aggregate-roll c = search needs
+
+slice-aggregate-roll-2 : tie.Need-slice-aggregate-roll-2
+slice-aggregate-roll-2 c = search needs
+
+slice-aggregate-roll-3 : tie.Need-slice-aggregate-roll-3
+slice-aggregate-roll-3 c = search needs
+
+slice-aggregate-roll-4 : tie.Need-slice-aggregate-roll-4
+slice-aggregate-roll-4 c = search needs
+
+slice-aggregate-roll-5 : tie.Need-slice-aggregate-roll-5
+slice-aggregate-roll-5 c = search needs
+
+slice-aggregate-roll-6 : tie.Need-slice-aggregate-roll-6
+slice-aggregate-roll-6 c = search needs
+
+slice-aggregate-roll-7 : tie.Need-slice-aggregate-roll-7
+slice-aggregate-roll-7 c = search needs
+
+roll-requires : tie.Need-roll-requires
+roll-requires c κs = search needs
+
+slice-aggregate-print-report : tie.Need-slice-aggregate-print-report
+slice-aggregate-print-report c = search needs
+
+slice-aggregate-print-report-2 : tie.Need-slice-aggregate-print-report-2
+slice-aggregate-print-report-2 c = search needs
+
+print-report-requires : tie.Need-print-report-requires
+print-report-requires c κs =
+    let e = c .before .before .before .before .before .before .before .before .before .roll .ensures in
+    let few = few-records e in
+    let cells = c .before .before .before .before .before .before .before .before .before .roll .kept .1 .1 .1 .1 .1 .0 in
+    (omega (arith, few, cells), omega (arith, few), written-inside e)
+
+returns : tie.Need-returns
+returns c = search needs
+
+pub roll-batch-spec : {M : Type 1} → statement M
+roll-batch-spec =
+    tie.close
+    (tie.spec
+    slice-aggregate-roll
+    slice-aggregate-roll-2
+    slice-aggregate-roll-3
+    slice-aggregate-roll-4
+    slice-aggregate-roll-5
+    slice-aggregate-roll-6
+    slice-aggregate-roll-7
+    roll-requires
+    slice-aggregate-print-report
+    slice-aggregate-print-report-2
+    print-report-requires
+    returns)
