@@ -38,7 +38,7 @@ list-same : (p s : ℕ) (a b : List ℕ) → ((j : ℕ) → rankAt p s j a ≡ r
 unfolding listRegisters
 list-same p s a b e = row-same p s a b e
 
-list-merged : (p s : ℕ) (a b : List ℕ) → listRegisters p s (merged p s a b) ≡ listRegisters p s (a ++ b)
+pub list-merged : (p s : ℕ) (a b : List ℕ) → listRegisters p s (merged p s a b) ≡ listRegisters p s (a ++ b)
 list-merged p s a b = list-same p s (merged p s a b) (a ++ b) (λ (j : ℕ). rank-merged p s j a b)
 
 abbrev row : ℕ → ℕ → List ℕ → List ℕ

@@ -11,3 +11,4 @@ pub mod WidthLaws
 pub mod AgreementLaws
 pub mod FoldLaws
 pub mod Agreement
+pub mod WrittenRuns
