@@ -5,7 +5,7 @@ use Prim.Native.Nat.{ℕ, _+_, _-_, _^_, _<_, _≤_, max, min}
 use mathlib.Core.Path.{_≡_, refl, sym, ap, ap₂, _∙_, subst}
 use mathlib.Core.Bool.{Bool, true, false, cond, not}
 use mathlib.Core.Logic.{⊎-elim}
-use mathlib.Core.List.{List, [], _∷_, _++_, append-assoc, append-nil, List·Memᴰ}
+use mathlib.Core.List.{List, [], _++_, append-assoc, append-nil, List·Memᴰ}
 use native.Mathlib.Nat.{min-le-right, min-eq-left, le-of-eq}
 use native.Mathlib.Omega.{arith}
 use lib.Dec.{ltb, eqb}

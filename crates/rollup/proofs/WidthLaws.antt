@@ -1,24 +1,24 @@
 -- The numbers of a head fit their widths after every call of a run: what they are made of was read from a state, or wraps, or counts values.
 use Prim.Native.Nat.{ℕ, _+_, _%_, _^_, _<_, _≤_}
-use mathlib.Core.Path.{_≡_, refl, sym, ap, _∙_, subst}
-use mathlib.Core.Bool.{Bool, true, false, cond, not}
+use mathlib.Core.Path.{_≡_, refl, sym, subst}
+use mathlib.Core.Bool.{true, false, not}
 use mathlib.Core.Logic.{⊎-elim}
-use mathlib.Core.List.{List, [], _++_}
+use mathlib.Core.List.{List, _++_}
 use native.Mathlib.Nat.{mod-lt}
 use native.Mathlib.Omega.{arith}
 use lib.Dec.{ltb, eqb}
-use lib.ListN.{length, take, length-append}
+use lib.ListN.{length, length-append}
 use lib.Seq.{length-take-le}
 use Rattle.wire.specs.Reading.{Read, got, refused}
 use Rattle.wire.specs.State.{State, emptyState, readState}
 use Rattle.wire.proofs.BoundLaws.{sparse-precision-small, sparse-size-small, count-small, value-type-small}
-use Rattle.lists.specs.Lists.{merged, written}
+use Rattle.lists.specs.Lists.{merged}
 use Rattle.lists.proofs.MergeLaws.{length-merged}
 use Rattle.lists.proofs.DecodingLaws.{accepted}
 use Rattle.rollup.specs.declared.accumulator.Form.{Form}
 use Rattle.rollup.specs.declared.accumulator.Form.the-variants.{Unstarted, Sparse, Dense}
 use Rattle.rollup.specs.declared.accumulator.Accumulator.{Accumulator}
-use Rattle.rollup.specs.Accumulator.{Mem, keptOf, waitingOf, limit, fits}
+use Rattle.rollup.specs.Accumulator.{Mem, keptOf, waitingOf, limit}
 use Rattle.rollup.specs.Header.{dataOf, listOf, isEmpty}
 use Rattle.rollup.specs.Adding.{After, signedMin, signedKey, waits, inserts, startAfter, settle, listAfter, sparseAfter, denseAfter, acceptedAfter, Ready}
 use Rattle.rollup.specs.Calls.{Call, Run, begun, adding, writing, valueOr, stateIn, valuesIn}

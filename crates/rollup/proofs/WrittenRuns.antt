@@ -1,5 +1,5 @@
 -- What a run writes is its roll-up's state, and no proper prefix of it is accepted: `WrittenLaws` for the heads and memory that runs lead to.
-use Prim.Native.Nat.{ℕ, zero, suc, _^_, _<_, _≤_}
+use Prim.Native.Nat.{ℕ, _^_, _<_, _≤_}
 use mathlib.Core.Path.{_≡_, refl, sym, ap, _∙_, subst}
 use mathlib.Core.Bool.{Bool, true, false, cond, true≢false}
 use mathlib.Core.List.{List, [], _++_, append-nil}
@@ -8,12 +8,11 @@ use native.Mathlib.Omega.{arith}
 use lib.Dec.{eqb}
 use lib.ListN.{length, take, drop}
 use lib.Pow.{pow-pos}
-use lib.Seq.{take-at, take-take, take-append-le}
+use lib.Seq.{take-at, take-append-le}
 use borrow.Author.Tests.{eqb-true, eqb-false, ne-eqb}
-use Rattle.wire.specs.Reading.{Read, got, refused}
+use Rattle.wire.specs.Reading.{got}
 use Rattle.wire.specs.State.{State, emptyState, readState}
-use Rattle.lists.specs.Lists.{merged, encodeList}
-use Rattle.lists.specs.Registers.{registersOf}
+use Rattle.lists.specs.Lists.{encodeList}
 use Rattle.lists.proofs.RegisterLaws.{of-length}
 use Rattle.rollup.specs.declared.accumulator.Form.{Form}
 use Rattle.rollup.specs.declared.accumulator.Form.the-variants.{Unstarted, Sparse, Dense}
@@ -23,7 +22,7 @@ use Rattle.rollup.specs.Accumulator.{Mem, keptOf, waitingOf}
 use Rattle.rollup.specs.Header.{dataOf, isEmpty}
 use Rattle.rollup.specs.Adding.{isStarted, listedIn, addOutcome}
 use Rattle.rollup.specs.Writing.{flushed, currentSize, stateWith, stateForm, writeOutcome, WritePost}
-use Rattle.rollup.specs.Calls.{Call, Run, valueOr, stateIn, valuesIn, listRegisters, registersIn, rollupRegisters, WrittenIs, WrittenReads, NoPrefixAccepted}
+use Rattle.rollup.specs.Calls.{valueOr, stateIn, valuesIn, listRegisters, registersIn, rollupRegisters, WrittenReads, NoPrefixAccepted}
 use Rattle.rollup.proofs.FitLaws.{fit-dense}
 use Rattle.rollup.proofs.WriteLaws.{WroteFacts, wrote-facts, flushed-none, flushed-some, list-state, dense-state}
 use Rattle.rollup.proofs.WrittenLaws.{read-back, list-back, data-back, no-prefix-accepted}

@@ -1,7 +1,7 @@
 -- What was read of a list of bytes is no longer than it: the sparse data of a state has no more bytes than the state, and a 32-bit number fits 32 bits.
 -- And what was refused has a number above 0.
 use Prim.Native.Nat.{ℕ, zero, suc, _%_, _^_, _<_, _≤_}
-use mathlib.Core.Path.{_≡_, refl, subst}
+use mathlib.Core.Path.{_≡_, subst}
 use mathlib.Core.List.{List, [], _∷_}
 use mathlib.Core.Bool.{Bool, true, false, cond}
 use mathlib.Core.Option.{some}
@@ -12,7 +12,7 @@ use lib.Dec.{ltb, leb, eqb}
 use Rattle.wire.specs.Reading.{Read, got, refused, andThen}
 use Rattle.wire.specs.Varints.{payload, varintOf, lowBits, varint64}
 use Rattle.wire.specs.Fields.{tag, VARINT, I64, LEN, I32, isTag, tagOf, bytesOf, delimitedOf, skipOf, fieldOf, fieldsOf, messageOf}
-use Rattle.wire.specs.State.{HllState, State, emptyHll, emptyState, bytesOrNone, isHllNumber, withHllNumber, isHllBytes, withHllBytes, hllNumberOf, hllBytesOf, otherOf, hllField, readHll, isNumber, withNumber, withHll, numberOf, nestedOf, outerField, readState}
+use Rattle.wire.specs.State.{HllState, State, emptyState, bytesOrNone, isHllNumber, withHllNumber, isHllBytes, withHllBytes, hllNumberOf, hllBytesOf, otherOf, hllField, readHll, isNumber, withNumber, withHll, numberOf, nestedOf, outerField, readState}
 
 -- Where a value was read, it has a property and no more than n bytes are left; a refusal has a number above 0.
 abbrev Reads : {A : Type 0} → (A → Type 0) → ℕ → Read A → Type 0
