@@ -28,17 +28,17 @@ fn list_cells() -> [u32; 8192]
 }
 
 // An output, filled in the same way.
-fn output_bytes() -> [u8; 20480]
-    ensures { λ r. ⌜ 20480 ≡ length r ⌝ }
+fn output_bytes() -> [u8; 4096]
+    ensures { λ r. ⌜ 4096 ≡ length r ⌝ }
 {
-    [165; 20480]
+    [165; 4096]
 }
 
 // Room for the cases.
-fn stream_bytes() -> [u8; 131072]
-    ensures { λ r. ⌜ 131072 ≡ length r ⌝ }
+fn stream_bytes() -> [u8; 163840]
+    ensures { λ r. ⌜ 163840 ≡ length r ⌝ }
 {
-    [0; 131072]
+    [0; 163840]
 }
 
 // ---- heads
@@ -223,7 +223,7 @@ fn write_line(
     scratch: &mut [u32],
     line: &[u8],
 ) {
-    let n = size(text::word(line, 1), 20480);
+    let n = size(text::word(line, 1), 4096);
     let mut out = output_bytes();
     output_case(
         kind,
