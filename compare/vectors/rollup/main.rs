@@ -421,7 +421,7 @@ impl Made {
 
     /// Writes into an output of this many bytes.
     fn output(&mut self, kind: &str, space: usize) -> (u8, Vec<u8>) {
-        assert!(space <= 4096 && (kind == "o" || self.roll.fits()));
+        assert!(space <= 20480 && (kind == "o" || self.roll.fits()));
         let (answer, bytes) = self.roll.write(space);
         self.all.counted(kind, &space.to_string(), &format!("{answer} {} {}", state(&bytes), self.roll.memory()), format!("{kind} answered {answer}"));
         (answer, bytes)
@@ -1415,7 +1415,7 @@ fn writing_questions(made: &mut Made) {
     made.spaces();
     made.after(4, &[&Fields { num_values: -1, sparse_size: -1, ..dense((4, -1), &registers(4, &[(3, 7)])) }]);
     made.spaces();
-    made.all.remark("23 where lengths take one byte more: a nested message of 127 and 128 bytes, a list of 127 and 128; registers at p = 6 and 7");
+    made.all.remark("23 where lengths take one byte more: a nested message of 127 and 128 bytes, a list of 127 and 128; registers at p = 6, 7 and 14");
     for n in [119, 120, 127, 128] {
         made.lend(256, 200, 200, 200);
         made.add(0, &list((8, 13), &upto(1, n)));
@@ -1431,6 +1431,16 @@ fn writing_questions(made: &mut Made) {
         made.write(0, size);
         made.write(23, size - 1);
     }
+    made.lend(16384, 18, 18, 18);
+    made.set_kept(&upto(1, 16));
+    made.head(Head { form: SPARSE, allowed: 15, num_values: 16, p: 14, s: 20, size: 16, kept: 16, bytes: limit(14), ..Head::default() });
+    made.add(0, &list((14, 20), &[1000]));
+    made.form(DENSE);
+    made.write(23, 4096);
+    let size = made.write(0, 20480).len();
+    assert!(size > 16384);
+    made.write(0, size);
+    made.write(23, size - 1);
 }
 
 fn writing_lists(made: &mut Made) {

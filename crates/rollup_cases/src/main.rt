@@ -28,10 +28,10 @@ fn list_cells() -> [u32; 8192]
 }
 
 // An output, filled in the same way.
-fn output_bytes() -> [u8; 4096]
-    ensures { λ r. ⌜ 4096 ≡ length r ⌝ }
+fn output_bytes() -> [u8; 20480]
+    ensures { λ r. ⌜ 20480 ≡ length r ⌝ }
 {
-    [165; 4096]
+    [165; 20480]
 }
 
 // Room for the cases.
@@ -223,7 +223,7 @@ fn write_line(
     scratch: &mut [u32],
     line: &[u8],
 ) {
-    let n = size(text::word(line, 1), 4096);
+    let n = size(text::word(line, 1), 20480);
     let mut out = output_bytes();
     output_case(
         kind,
