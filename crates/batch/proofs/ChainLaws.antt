@@ -13,7 +13,7 @@ use Rattle.wire.proofs.BoolLaws.{both-true}
 use Rattle.rollup.specs.declared.accumulator.Accumulator.{Accumulator}
 use Rattle.rollup.specs.declared.adding.Added.{Added}
 use Rattle.rollup.specs.Accumulator.{Mem, fresh}
-use Rattle.rollup.specs.Adding.{SameLengths, AddPost}
+use Rattle.rollup.specs.Adding.{Free, AddPost}
 use Rattle.rollup.specs.Calls.{Call, added, Run, begun, adding}
 use Rattle.batch.specs.declared.records.Ending.{Ending}
 use Rattle.batch.specs.declared.records.Ending.the-variants.{Whole, Refused, Full}
@@ -150,10 +150,10 @@ pub record Going (batch : List ℕ) (first : Mem) (room before at k : ℕ) (a : 
   pub states : chainOf batch .states ≡ done ++ chainFrom left batch before at .states
   pub ending : chainOf batch .ending ≡ chainFrom left batch before at .ending
   pub run : Run room first (addedAll done (take k answers) []) a m
-  pub lengths : SameLengths first m
+  pub free : Free first m
 
-pub same-lengths : (m : Mem) → SameLengths m m
-same-lengths m = record { registers = refl; sparse = refl; pending = refl }
+pub same-cells : (m : Mem) → Free m m
+same-cells m = record { registers = refl; sparse = refl; pending = refl }
 
 pub going-start : (batch : List ℕ) (m : Mem) (room at : ℕ) (a : Accumulator) (cells : ℕ) (answers : List ℕ) → isBatch batch ≡ true → at ≡ wordAt batch 0
     → a ≡ fresh → length answers ≡ cells → Going batch m room 0 at 0 a m cells answers
@@ -175,7 +175,7 @@ going-start batch m room at a cells answers ok e f l =
       states = ap (λ (c : Chain). c .states) whole;
       ending = ap (λ (c : Chain). c .ending) whole;
       run = subst (λ (h : Accumulator). Run room m [] h m) (sym f) begun;
-      lengths = same-lengths m;
+      free = same-cells m;
     }
 
 module _ (batch : List ℕ) (first : Mem) (room before at k : ℕ) (a : Accumulator) (m : Mem) (cells : ℕ) (answers : List ℕ)
@@ -200,7 +200,7 @@ module _ (batch : List ℕ) (first : Mem) (room before at k : ℕ) (a : Accumula
             ∙ ap (λ (x : ℕ). cond (eqb x 0) Whole (Refused x)) last
             ∙ f);
         run = subst (λ (l : List (List ℕ)). Run room first (addedAll l (take k answers) []) a m) (sym front) (g .run);
-        lengths = g .lengths;
+        free = g .free;
       }
 
   pub stop-whole : at ≡ 0 → RolledPost batch first room (record { head = a; records = k; ending = Whole }) m cells answers
@@ -235,7 +235,7 @@ module _ (batch : List ℕ) (first : Mem) (room before at k : ℕ) (a : Accumula
                 (ap (λ (t : Bool). cond t (cond (eqb (chainOf batch .ending) 0) Whole (Refused (chainOf batch .ending))) Full)
                 (lt-leb (length (chainOf batch .states)) cells many));
             run = subst (λ (l : List (List ℕ)). Run room first (addedAll l (take k answers) []) a m) (sym front) (g .run);
-            lengths = g .lengths;
+            free = g .free;
           }
 
       pub going-turn : (next : ℕ) (s : List ℕ) (r : Added) (n : Mem) → next ≡ nextAt batch at → s ≡ stateAt batch at → k < cells → AddPost a m room s r n
@@ -261,11 +261,11 @@ module _ (batch : List ℕ) (first : Mem) (room before at k : ℕ) (a : Accumula
             states = more ∙ ap (λ (x : ℕ). (g .done ++ stateAt batch at ∷ []) ++ chainFrom (step .fewer) batch at x .states) (sym e);
             ending = g .ending ∙ ap (λ (c : Chain). c .ending) (step .same) ∙ ap (λ (x : ℕ). chainFrom (step .fewer) batch at x .ending) (sym e);
             run = subst (λ (c : List Call). Run room first c (r .head) n) (sym calls) (adding s r n (g .run) post);
-            lengths =
+            free =
                 record {
-                  registers = post .lengths .registers ∙ g .lengths .registers;
-                  sparse = post .lengths .sparse ∙ g .lengths .sparse;
-                  pending = post .lengths .pending ∙ g .lengths .pending;
+                  registers = post .free .registers ∙ g .free .registers;
+                  sparse = post .free .sparse ∙ g .free .sparse;
+                  pending = post .free .pending ∙ g .free .pending;
                 };
           }
 
@@ -280,7 +280,7 @@ no-batch batch m room a cells answers e f =
       records = sym (ap length none);
       ending = sym (ap (λ (c : Chain). endingFor c cells) whole ∙ ap (λ (t : Bool). cond t (Refused 24) Full) (le-leb 0 cells (omega arith)));
       run = subst (λ (l : List (List ℕ)). Run room m (addedAll l (take 0 answers) []) a m) (sym none) (subst (λ (h : Accumulator). Run room m [] h m) (sym f) begun);
-      lengths = same-lengths m;
+      free = same-cells m;
     }
   where
     take-none : (n : ℕ) → take {A = List ℕ} n [] ≡ []

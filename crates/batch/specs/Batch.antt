@@ -6,7 +6,7 @@ use Prim.Native.Nat.{ℕ}
 use lib.Dec.{leb, eqb}
 use lib.ListN.{length, take}
 use Rattle.rollup.specs.Accumulator.{Mem}
-use Rattle.rollup.specs.Adding.{SameLengths}
+use Rattle.rollup.specs.Adding.{Free}
 use Rattle.rollup.specs.Calls.{Call, added, Run}
 use Rattle.batch.specs.declared.records.Ending.{Ending}
 use Rattle.batch.specs.declared.records.Ending.the-variants.{Whole, Refused, Full}
@@ -32,4 +32,4 @@ pub record RolledPost (batch : List ℕ) (first : Mem) (room : ℕ) (r : Rolled)
   pub records : r .records ≡ length (statesFor batch cells)
   pub ending : r .ending ≡ endingFor (chainOf batch) cells
   pub run : Run room first (addedAll (statesFor batch cells) (take (r .records) answers) []) (r .head) m
-  pub lengths : SameLengths first m
+  pub free : Free first m

@@ -19,7 +19,7 @@ use Rattle.rollup.specs.declared.judging.Judged.the-variants.{State as J
 use Rattle.rollup.specs.declared.accumulator.Accumulator.{Accumulator}
 use Rattle.rollup.specs.Accumulator.{Mem, mem, fits}
 use Rattle.rollup.specs.Header.{listOf}
-use Rattle.rollup.specs.Adding.{After, Outcome, refuse, accept, acceptedAfter, judge, hasRoom, listedIn, question, opened, addOutcome, judgeState, sparseAfter, Shows, SameLengths, AddPost}
+use Rattle.rollup.specs.Adding.{After, Outcome, refuse, accept, acceptedAfter, judge, hasRoom, listedIn, question, opened, addOutcome, judgeState, sparseAfter, Shows, Free, AddPost}
 use Rattle.rollup.specs.Judging.{judgedRefusal, JudgePost, RoomPre, ListedPre}
 use Rattle.rollup.specs.DensePaths.{StartPost, DensePost}
 use Rattle.rollup.specs.Accepting.{AcceptPre, decodedRefusal}
@@ -90,16 +90,16 @@ module _ (a : Accumulator) (m : Mem) (room : ℕ) (bytes : List ℕ) where
               kept = ap (λ (x : Outcome). x .after .kept) (sym e);
               waiting = subst (λ (x : Outcome). List·Permᴰ (refuse n a m .after .waiting) (x .after .waiting)) (sym e) (Permᴰ·refl (refuse n a m .after .waiting));
             };
-        lengths = record { registers = refl; sparse = refl; pending = refl };
+        free = record { registers = refl; sparse = refl; pending = refl };
       }
 
-  pub accepted-post : (x : After) (h : Accumulator) (n : Mem) → addOutcome a m room bytes ≡ accept x → Shows x h n → SameLengths m n
+  pub accepted-post : (x : After) (h : Accumulator) (n : Mem) → addOutcome a m room bytes ≡ accept x → Shows x h n → Free m n
       → AddPost a m room bytes (record { answer = 0; head = h }) n
   accepted-post x h n e shows same =
       record {
         answer = ap (λ (y : Outcome). y .answer) (sym e);
         after = subst (λ (y : Outcome). Shows (y .after) h n) (sym e) shows;
-        lengths = same;
+        free = same;
       }
 
 -- ---- the path, by the form
@@ -198,8 +198,8 @@ module _ (a : Accumulator) (m : Mem) (room : ℕ) (bytes : List ℕ) (fit : fits
                   };
             }
 
-        pub all-accepted : (h : Accumulator) (n : Mem) → Shows (acceptedAfter (a .form) a m (stateOf bytes f) (take k out)) h n → SameLengths m n
+        pub all-accepted : (h : Accumulator) (n : Mem) → Shows (acceptedAfter (a .form) a m (stateOf bytes f) (take k out)) h n → Free m n
             → AddPost a m room bytes (record { answer = 0; head = h }) n
-        all-accepted h n shows lengths =
+        all-accepted h n shows free =
             accepted-post a m room bytes (acceptedAfter (a .form) a m (stateOf bytes f) (take k out)) h n
-            (add-accepted a m room bytes (stateOf bytes f) [] fit (sym (is-state .answer)) (take k out) [] there list-end) shows lengths
+            (add-accepted a m room bytes (stateOf bytes f) [] fit (sym (is-state .answer)) (take k out) [] there list-end) shows free

@@ -294,7 +294,7 @@ module _ (a : Accumulator) (registers sparse pending : List ℕ) (room : ℕ) (o
         len = w .len;
         output = w .output;
         same = record { head = refl; registers = refl; kept = refl; waiting = p };
-        lengths = record { registers = refl; sparse = refl; pending = n };
+        free = record { registers = refl; sparse = refl; pending = n };
       }
 
   pub untouched : (r : Written) (after : List ℕ) → Writes (writeOutcome a before room (length out)) out r after

@@ -303,8 +303,9 @@ pub record Shows (x : After) (a : Accumulator) (m : Mem) : Type 0 where
   pub kept : keptOf a m ≡ x .kept
   pub waiting : List·Permᴰ (waitingOf a m) (x .waiting)
 
--- The lengths stay. `scratch`, and the cells of the lists past their counts, may hold anything after a call: that is all that is free.
-pub record SameLengths (m n : Mem) : Type 0 where
+-- What is free: `scratch`, and the cells of the lists past their counts, may hold anything after a call; how many cells there are stays. Besides the
+-- order in `pending` (`waiting` of `Shows`) nothing else is free.
+pub record Free (m n : Mem) : Type 0 where
   pub registers : length (n .registers) ≡ length (m .registers)
   pub sparse : length (n .sparse) ≡ length (m .sparse)
   pub pending : length (n .pending) ≡ length (m .pending)
@@ -312,4 +313,4 @@ pub record SameLengths (m n : Mem) : Type 0 where
 pub record AddPost (a : Accumulator) (m : Mem) (room : ℕ) (bytes : List ℕ) (r : Added) (n : Mem) : Type 0 where
   pub answer : r .answer ≡ addOutcome a m room bytes .answer
   pub after : Shows (addOutcome a m room bytes .after) (r .head) n
-  pub lengths : SameLengths m n
+  pub free : Free m n

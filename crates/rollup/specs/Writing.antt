@@ -15,7 +15,7 @@ use Rattle.rollup.specs.declared.accumulator.Form.the-variants.{Unstarte
 use Rattle.rollup.specs.declared.accumulator.Accumulator.{Accumulator}
 use Rattle.rollup.specs.declared.writing.Written.{Written}
 use Rattle.rollup.specs.Accumulator.{Mem, keptOf, waitingOf, limit, fits}
-use Rattle.rollup.specs.Adding.{isStarted, unchanged, Shows, SameLengths}
+use Rattle.rollup.specs.Adding.{isStarted, unchanged, Shows, Free}
 
 -- ---- what is written
 
@@ -83,4 +83,4 @@ pub record WritePost (a : Accumulator) (m : Mem) (room : ℕ) (out : List ℕ) (
   pub len : r .len ≡ length (writeOutcome a m room (length out) .bytes)
   pub output : after ≡ writeOutcome a m room (length out) .bytes ++ drop (length (writeOutcome a m room (length out) .bytes)) out
   pub same : Shows (unchanged a m) a n
-  pub lengths : SameLengths m n
+  pub free : Free m n
