@@ -120,7 +120,7 @@ module _ (b : List ℕ) (before i : ℕ) (within : before < length b) (index : i
 
 -- ---- the calls
 
-added-last : (states : List (List ℕ)) (answers : List ℕ) (s : List ℕ) (n : ℕ) (calls : List Call) → length states ≡ length answers
+pub added-last : (states : List (List ℕ)) (answers : List ℕ) (s : List ℕ) (n : ℕ) (calls : List Call) → length states ≡ length answers
     → addedAll (states ++ s ∷ []) (answers ++ n ∷ []) calls ≡ added s n ∷ addedAll states answers calls
 unfolding addedAll
 added-last [] [] s n calls e = refl

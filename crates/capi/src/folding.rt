@@ -1,0 +1,59 @@
+// Many states, added one after the other: question 1 is asked once, and then each state goes to the form of `add` that need not scan.
+ghost use Prim.Native.Nat.{_-_};
+ghost use mathlib.Core.Path.{_≡_};
+ghost use lib.ListN.{length};
+ghost use Rattle.rollup.specs.Accumulator.{mem};
+ghost use Rattle.capi.specs.Folds.{between, FoldPre, FoldedPost};
+use rollup::accumulator::Accumulator;
+use rollup::adding;
+
+// The bytes from one end to the next, as far as there are any.
+fn between(bytes: &[u8], start: usize, end: usize) -> &[u8]
+    ensures { λ r. ⌜ now r ≡ between (now (bytes .entry)) start end ⌝ }
+{
+    if end <= start {
+        return &bytes[..0];
+    }
+    if bytes.len() <= start {
+        return &bytes[..0];
+    }
+    if bytes.len() < end {
+        return &bytes[start..];
+    }
+    &bytes[start..end]
+}
+
+// Adds the states between the ends, and puts each answer into its cell.
+pub(crate) fn fold_states(
+    a: Accumulator,
+    registers: &mut [u8],
+    sparse: &mut [u32],
+    pending: &mut [u32],
+    scratch: &mut [u32],
+    bytes: &[u8],
+    ends: &[u64],
+    answers: &mut [u8],
+) -> Accumulator
+    requires { ⌜ FoldPre a (mem (now registers) (now sparse) (now pending)) (now ends) (now answers) ⌝ }
+    ensures { λ r. ⌜ FoldedPost a (mem (now (registers .entry)) (now (sparse .entry)) (now (pending .entry))) (length (now (scratch .entry))) (now (bytes .entry)) (now (ends .entry)) (now (answers .entry)) r (mem (now (registers .exit)) (now (sparse .exit)) (now (pending .exit))) (now (answers .exit)) ⌝ }
+{
+    let mut head = a;
+    let mut start: usize = 0;
+    let mut i: usize = 0;
+    while i < ends.len() {
+        let end = ends[i] as usize;
+        let r = adding::add_fitting(
+            head,
+            registers,
+            sparse,
+            pending,
+            scratch,
+            between(bytes, start, end),
+        );
+        head = r.head;
+        answers[i] = r.answer;
+        start = end;
+        i += 1;
+    }
+    head
+}
