@@ -1,0 +1,4 @@
+pub mod WordLaws
+pub mod Base64Laws
+pub mod LineLaws
+pub mod PackLaws
