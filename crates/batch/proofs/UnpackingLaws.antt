@@ -5,7 +5,7 @@ use mathlib.Core.Path.{_≡_, refl, sym, ap, _∙_}
 use mathlib.Core.List.{List, [], _∷_, _++_, map, append-assoc, append-nil}
 use mathlib.Core.Bool.{Bool, true, false, cond}
 use native.Mathlib.Omega.{arith}
-use lib.ListN.{length, getD, take, drop, set, length-set, length-append, length-map, length-drop, drop-of-length-le}
+use lib.ListN.{length, getD, take, drop, set, length-set, length-append, length-map, length-take, length-drop, drop-of-length-le}
 use lib.Seq.{take-suc-set, length-take-le, take-nil, take-all}
 use Rattle.batch.specs.Chain.{wordAt, nextAt, lengthAt, stateAt, isRecord, Chain, ends, onto, chainFrom, isBatch, chainOf}
 use Rattle.batch.specs.declared.unpacking.Walked.{Walked}
@@ -115,3 +115,7 @@ state-cut b at n h e =
 
 pub state-whole : (b : List ℕ) (at n : ℕ) → n ≡ lengthAt b at → take (at + 8 + n - (at + 8)) (drop (at + 8) b) ≡ stateAt b at
 state-whole b at n e = ap (λ (k : ℕ). take k (drop (at + 8) b)) ((let z : at + 8 + n - (at + 8) ≡ n = omega arith in z) ∙ e)
+
+pub state-short : (b s : List ℕ) (at : ℕ) → s ≡ stateAt b at → length s ≤ length b
+state-short b s at e =
+    omega (arith, ap (λ (l : List ℕ). length l) e, length-take (lengthAt b at) (drop (at + 8) b), length-drop (at + 8) b)

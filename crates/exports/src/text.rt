@@ -25,11 +25,11 @@ pub fn index_cells() -> [u32; 65536]
     [0; 65536]
 }
 
-// Room for the line of the longest state.
-pub fn line_bytes() -> [u8; 131073]
-    ensures { λ r. ⌜ 131073 ≡ length r ⌝ }
+// Room for the line of any part of what `batch_bytes` holds.
+pub fn line_bytes() -> [u8; 131075]
+    ensures { λ r. ⌜ 131075 ≡ length r ⌝ }
 {
-    [0; 131073]
+    [0; 131075]
 }
 
 // Puts the bytes as lowercase hexadecimal and a newline at the front of `out`, and answers how long that is.
