@@ -1,20 +1,18 @@
 -- A batch made of states: what appending a record leaves is the batch of one more state, and walking a batch so made finds its states in order.
-use Prim.Native.Nat.{ℕ, zero, suc, _+_, _-_, _*_, _/_, _%_, _^_, _<_, _≤_}
+use Prim.Native.Nat.{ℕ, suc, _+_, _-_, _*_, _/_, _%_, _^_, _<_, _≤_}
 use mathlib.Core.Path.{_≡_, refl, sym, ap, ap₂, _∙_, subst}
 use mathlib.Core.List.{List, [], _∷_, _++_, append-assoc, append-nil}
-use mathlib.Core.Bool.{Bool, true, false, cond, _&&_}
-use native.Mathlib.Numerals.{add-one}
+use mathlib.Core.Bool.{Bool, true, cond, _&&_}
 use native.Mathlib.Omega.{arith}
-use lib.Dec.{ltb, leb, eqb}
-use lib.ListN.{length, getD, take, drop, set, length-set, length-append, length-drop, take-append-drop}
-use lib.Seq.{sets, sets-eq, length-sets, take-at, drop-at, getD-drop, drop-drop, take-append-seam, length-take-le, take-all, take-take, take-append-le}
-use borrow.Author.Tests.{le-leb, lt-ltb, eq-eqb, ne-eqb}
+use lib.Dec.{ltb, leb}
+use lib.ListN.{length, getD, take, drop, set, length-append, length-drop, take-append-drop}
+use lib.Seq.{sets, sets-eq, length-sets, take-at, drop-at, getD-drop, drop-drop}
+use borrow.Author.Tests.{le-leb, lt-ltb}
 use Rattle.wire.specs.Varints.{PutPost}
 use Rattle.wire.proofs.EncodingLaws.{Three, three}
-use Rattle.lists.proofs.OrderLaws.{true-both}
-use Rattle.batch.specs.Chain.{wordAt, nextAt, lengthAt, stateAt, isRecord, Chain, ends, onto, chainFrom, isBatch, chainOf}
+use Rattle.batch.specs.Chain.{wordAt, nextAt, lengthAt, stateAt, isRecord, ends, onto, chainFrom, isBatch, chainOf}
 use Rattle.batch.specs.Packing.{wordBytes, recordBytes, indexOf, recordsAt, packed, RecordPost}
-use Rattle.batch.proofs.ChainLaws.{Next, chain-end, chain-next}
+use Rattle.batch.proofs.ChainLaws.{chain-end, chain-next}
 
 -- ---- words
 

@@ -5,12 +5,11 @@ use mathlib.Core.Path.{_≡_, refl, sym, ap, _∙_}
 use mathlib.Core.List.{List, [], _∷_, _++_, map, append-assoc, append-nil}
 use mathlib.Core.Bool.{Bool, true, false, cond}
 use native.Mathlib.Omega.{arith}
-use lib.ListN.{length, getD, take, drop, set, length-set, length-append, length-map, length-take, length-drop, drop-of-length-le}
+use lib.ListN.{length, take, drop, set, length-set, length-map, length-take, length-drop, drop-of-length-le}
 use lib.Seq.{take-suc-set, length-take-le, take-nil, take-all}
-use Rattle.batch.specs.Chain.{wordAt, nextAt, lengthAt, stateAt, isRecord, Chain, ends, onto, chainFrom, isBatch, chainOf}
-use Rattle.batch.specs.declared.unpacking.Walked.{Walked}
+use Rattle.batch.specs.Chain.{wordAt, nextAt, lengthAt, stateAt, isRecord, Chain, ends, chainFrom, isBatch, chainOf}
 use Rattle.batch.specs.Unpacking.{WalkedPost}
-use Rattle.batch.proofs.ChainLaws.{record-inside, batch-size, Next, chain-end, chain-bad, chain-next}
+use Rattle.batch.proofs.ChainLaws.{record-inside, batch-size, chain-end, chain-bad, chain-next}
 
 map-append : (f : ℕ → List ℕ) (a b : List ℕ) → map f (a ++ b) ≡ map f a ++ map f b
 map-append f [] b = refl

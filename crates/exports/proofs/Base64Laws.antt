@@ -1,19 +1,16 @@
 -- Laws of base64: characters and their bits, three bytes stored, the groups of a word.
-use mathlib.Core.Path.{_≡_, refl, sym, ap, ap₂, _∙_, subst}
+use mathlib.Core.Path.{_≡_, refl, sym, ap, ap₂, _∙_}
 use mathlib.Core.List.{List, [], _∷_, _++_, append-assoc}
 use mathlib.Core.Bool.{Bool, true, false, cond}
-use mathlib.Core.Option.{Option, none, some}
-use Prim.Native.Nat.{ℕ, zero, suc, _+_, _*_, _/_, _%_, _<_, _≤_}
-use native.Mathlib.Numerals.{add-one}
+use mathlib.Core.Option.{none, some}
+use Prim.Native.Nat.{ℕ, suc, _+_, _*_, _/_, _%_, _<_, _≤_}
 use native.Mathlib.Omega.{arith}
 use lib.Dec.{ltb, eqb}
-use lib.ListN.{length, take, drop, set, getD, length-set, drop-of-length-le}
-use lib.Seq.{sets, sets-eq, length-sets, take-at, drop-cons, take-append-add, take-append-le, length-take-le}
+use lib.ListN.{length, take, drop, set, getD, drop-of-length-le}
+use lib.Seq.{sets, sets-eq, length-sets, drop-cons, take-append-add, take-append-le, length-take-le}
 use borrow.Author.Tests.{lt-ltb, le-ltb, eq-eqb, ne-eqb}
-use Rattle.io.specs.Counts.{Counts}
 use Rattle.cases.specs.Input.{upTo, FindPost}
-use Rattle.cases.specs.declared.input.Bytes.{Bytes}
-use Rattle.cases.specs.declared.input.Bytes.the-variants.{Count, Other}
+use Rattle.cases.specs.declared.input.Bytes.the-variants.{Count}
 use Rattle.exports.specs.Words.{ahead, DecodedPost}
 use Rattle.exports.specs.Base64.{alphabet, sextetOf, bitsOf, threeOf, groupThen, endOf, lastGroup, base64Of, SextetPost, BitsPost}
 use Rattle.exports.proofs.WordLaws.{ahead-twice}

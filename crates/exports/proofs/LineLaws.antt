@@ -1,14 +1,13 @@
 -- Laws of lines: the first line of what is left, a line without its carriage return, and what a word spells.
 use mathlib.Core.Path.{_≡_, refl, sym, ap, ap₂, _∙_, subst}
-use mathlib.Core.List.{List, [], _∷_, _++_}
+use mathlib.Core.List.{List, [], _∷_}
 use mathlib.Core.Bool.{Bool, true, false, cond}
-use mathlib.Core.Option.{Option, none, some}
+use mathlib.Core.Option.{Option}
 use Prim.Native.Nat.{ℕ, zero, suc, _+_, _-_, _<_, _≤_}
-use native.Mathlib.Numerals.{add-one}
 use native.Mathlib.Omega.{arith}
 use lib.Dec.{eqb}
 use lib.ListN.{length, take, drop, getD, length-take, length-drop}
-use lib.Seq.{drop-drop, take-all, drop-cons, length-take-le}
+use lib.Seq.{drop-drop, drop-cons}
 use borrow.Author.Tests.{eq-eqb, ne-eqb}
 use Rattle.cases.specs.Input.{upTo, hexOf}
 use Rattle.cases.specs.declared.input.Bytes.{Bytes}

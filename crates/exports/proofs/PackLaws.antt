@@ -2,25 +2,25 @@
 use mathlib.Core.Path.{_≡_, refl, sym, ap, ap₂, _∙_, subst}
 use mathlib.Core.List.{List, [], _∷_, _++_, append-assoc, append-nil}
 use mathlib.Core.Bool.{Bool, true, false, cond}
-use mathlib.Core.Option.{Option, none, some}
+use mathlib.Core.Option.{none, some}
 use mathlib.Core.Logic.{_⊎_, inl, inr}
-use Prim.Native.Nat.{ℕ, zero, suc, _+_, _-_, _<_, _≤_}
+use Prim.Native.Nat.{ℕ, _+_, _-_, _<_, _≤_}
 use native.Mathlib.Omega.{arith}
 use lib.Dec.{leb}
 use lib.ListN.{length, take, drop, drop-of-length-le, length-take}
-use lib.Seq.{sets, sets-eq, length-sets, take-at, length-take-le}
-use borrow.Author.Tests.{le-leb, lt-leb, leb-true, leb-false}
+use lib.Seq.{sets-eq, length-sets, take-at, length-take-le}
+use borrow.Author.Tests.{le-leb, lt-leb, leb-true}
 use denote.Enum.Declared as E
 use Rattle.wire.specs.Varints.{PutPost}
-use Rattle.batch.specs.Chain.{Chain, chainOf}
+use Rattle.batch.specs.Chain.{chainOf}
 use Rattle.batch.specs.Packing.{wordBytes, packed, RecordPost}
-use Rattle.batch.proofs.PackingLaws.{Open, open-start, open-packed, open-behind, open-next, word-length, record-length, packed-chain}
+use Rattle.batch.proofs.PackingLaws.{Open, open-start, open-packed, open-next, word-length, record-length, packed-chain}
 use Rattle.cases.specs.Input.{upTo}
 use Rattle.exports.specs.declared.packing.Place.{Place}
 use Rattle.exports.specs.declared.packing.Turn.{Turn}
 use Rattle.exports.specs.declared.packing.Turn.the-variants.{Next, Other, Long}
 use Rattle.exports.specs.declared.packing.Packed.{Packed}
-use Rattle.exports.specs.declared.packing.Packed.the-variants.{Batch, BadLine, TooLong}
+use Rattle.exports.specs.declared.packing.Packed.the-variants.{Batch}
 use Rattle.exports.specs.Lines.{linesOf, trimmed, stateOf, Held, nothing, state, other, heldBy, held}
 use Rattle.exports.specs.Packing.{Packing, packs, bad, long, after, lineThen, packing, packingOf, FitPost, TurnPost, refusal, PackedPost}
 use Rattle.exports.proofs.packing.Turn.{enum as turn-enum}

@@ -3,7 +3,7 @@ use native.Mathlib.Omega.{arith}
 use lib.ListN.{length}
 use denote.Ref.{now}
 use borrow.Author.Needs.{needs}
-use Rattle.wire.proofs.EncodingLaws.{put-both, first-room, next-room, mid-room}
+use Rattle.wire.proofs.EncodingLaws.{put-both, next-room, mid-room}
 use Rattle.batch.proofs.PackingLaws.{record-three, record-length, word-length}
 use Rattle.batch.proofs.packing.put_last.Statement.{statement}
 use Rattle.batch.proofs.packing.put_last.Tie as tie

@@ -2,9 +2,8 @@
 use native.Mathlib.Omega.{arith}
 use denote.Ref.{now}
 use mathlib.Core.Path.{_≡_, refl, _∙_, subst}
-use mathlib.Core.List.{List}
 use Prim.Native.Nat.{ℕ, _+_, _-_, _≤_}
-use lib.ListN.{length, take, drop}
+use lib.ListN.{length}
 use Rattle.exports.specs.declared.packing.Packed.the-variants.{Batch}
 use Rattle.exports.specs.Packing.{packingOf, PackedPost}
 use Rattle.batch.proofs.PackingLaws.{open-behind}
