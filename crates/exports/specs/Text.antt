@@ -1,4 +1,4 @@
--- A state as a line.
+-- States as lines.
 use mathlib.Core.Path.{_≡_}
 use mathlib.Core.List.{List, [], _∷_, _++_}
 use Prim.Native.Nat.{ℕ}
@@ -10,3 +10,8 @@ use Rattle.cases.specs.Output.{hexText}
 pub record LinePost (bytes : List ℕ) (r : ℕ) (now : List ℕ) : Type 0 where
   pub text : take r now ≡ hexText bytes ++ 10 ∷ []
   pub counts : Counts r now
+
+-- A line for each state: what `unpack` prints.
+unfoldable pub textOf : List (List ℕ) → List ℕ
+textOf [] = []
+textOf (s ∷ states) = hexText s ++ 10 ∷ textOf states
