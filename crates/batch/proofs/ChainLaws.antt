@@ -84,7 +84,7 @@ word-read b i v w x y e f g h k l m n = ((let z : v + 256 * w + 65536 * x + 1677
 
 -- ---- the chain from an index on
 
-chain-end : (n : ℕ) (b : List ℕ) (before i : ℕ) → i ≡ 0 → chainFrom n b before i ≡ ends 0
+pub chain-end : (n : ℕ) (b : List ℕ) (before i : ℕ) → i ≡ 0 → chainFrom n b before i ≡ ends 0
 unfolding chainFrom
 chain-end zero b before i e = refl
 chain-end (suc n) b before i e =
@@ -92,7 +92,7 @@ chain-end (suc n) b before i e =
 
 -- Where the bound is large enough.
 module _ (b : List ℕ) (before i : ℕ) (within : before < length b) (index : i ≡ 0 → ⊥) where
-  chain-bad : (n : ℕ) → length b ≤ before + n → isRecord b before i ≡ false → chainFrom n b before i ≡ ends 25
+  pub chain-bad : (n : ℕ) → length b ≤ before + n → isRecord b before i ≡ false → chainFrom n b before i ≡ ends 25
   unfolding chainFrom
   chain-bad zero h e = absurd (let z : ⊥ = omega arith in z)
   chain-bad (suc n) h e =
@@ -100,12 +100,12 @@ module _ (b : List ℕ) (before i : ℕ) (within : before < length b) (index : i
       ap (λ (t : Bool). cond t (ends 0) (cond (isRecord b before i) next (ends 25))) (ne-eqb i 0 index)
       ∙ ap (λ (t : Bool). cond t next (ends 25)) e
 
-  record Next (n : ℕ) : Type 0 where
-    fewer : ℕ
-    less : n ≡ suc fewer
-    same : chainFrom n b before i ≡ onto (stateAt b i) (chainFrom fewer b i (nextAt b i))
+  pub record Next (n : ℕ) : Type 0 where
+    pub fewer : ℕ
+    pub less : n ≡ suc fewer
+    pub same : chainFrom n b before i ≡ onto (stateAt b i) (chainFrom fewer b i (nextAt b i))
 
-  chain-next : (n : ℕ) → length b ≤ before + n → isRecord b before i ≡ true → Next n
+  pub chain-next : (n : ℕ) → length b ≤ before + n → isRecord b before i ≡ true → Next n
   unfolding chainFrom
   chain-next zero h e = absurd (let z : ⊥ = omega arith in z)
   chain-next (suc n) h e =

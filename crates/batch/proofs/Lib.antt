@@ -1,2 +1,4 @@
 pub mod ChainLaws
 pub mod ClosingLaws
+pub mod PackingLaws
+pub mod UnpackingLaws

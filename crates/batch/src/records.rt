@@ -30,7 +30,7 @@ fn wide(b: u8) -> usize
 }
 
 // Four bytes, low first.
-fn word_at(batch: &[u8], at: usize) -> usize
+pub(crate) fn word_at(batch: &[u8], at: usize) -> usize
     requires { ⌜ at + 4 ≤ length (now batch) ⌝ }
     ensures { λ r. ⌜ (r ≡ wordAt (now (batch .entry)) at) × (r < 2 ^ 32) ⌝ }
 {
@@ -39,7 +39,7 @@ fn word_at(batch: &[u8], at: usize) -> usize
 }
 
 // 25: "is each index at least 4 and above the one before, and the record inside?" No sum is made before its parts are known to be small.
-fn is_record(batch: &[u8], before: usize, at: usize) -> bool
+pub(crate) fn is_record(batch: &[u8], before: usize, at: usize) -> bool
     ensures { λ r. ⌜ r ≡ isRecord (now (batch .entry)) before at ⌝ }
 {
     if at < 4 {
@@ -59,7 +59,7 @@ fn is_record(batch: &[u8], before: usize, at: usize) -> bool
 }
 
 // 24: "at most 65,536 bytes, at least 4?"
-fn is_batch(batch: &[u8]) -> bool
+pub(crate) fn is_batch(batch: &[u8]) -> bool
     ensures { λ r. ⌜ r ≡ isBatch (now (batch .entry)) ⌝ }
 {
     if batch.len() < 4 {

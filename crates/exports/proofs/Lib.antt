@@ -1,0 +1,5 @@
+pub mod WordLaws
+pub mod Base64Laws
+pub mod LineLaws
+pub mod PackLaws
+pub mod RoundTrip
