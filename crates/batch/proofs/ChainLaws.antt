@@ -6,8 +6,8 @@ use mathlib.Core.List.{List, [], _∷_, _++_, append-assoc, append-nil}
 use mathlib.Core.Bool.{Bool, true, false, cond, _&&_}
 use native.Mathlib.Omega.{arith}
 use lib.Dec.{ltb, leb, eqb}
-use lib.ListN.{length, getD, take, set, length-set, length-append}
-use lib.Seq.{take-suc-set, take-all, take-at, length-take-le}
+use lib.ListN.{length, getD, take, drop, set, length-set, length-append}
+use lib.Seq.{take-suc-set, drop-set-lt, drop-drop, take-all, take-at, length-take-le}
 use borrow.Author.Tests.{leb-true, leb-false, ltb-true, lt-ltb, le-leb, lt-leb, eq-eqb, ne-eqb, eqb-true, eqb-false}
 use Rattle.wire.proofs.BoolLaws.{both-true}
 use Rattle.rollup.specs.declared.accumulator.Accumulator.{Accumulator}
@@ -138,15 +138,16 @@ cell-left k n cells h f e = go (eqb k cells) refl
 
 -- ---- the walk
 
-pub record Going (batch : List ℕ) (first : Mem) (room before at k : ℕ) (a : Accumulator) (m : Mem) (cells : ℕ) (answers : List ℕ) : Type 0 where
+pub record Going (batch : List ℕ) (first : Mem) (room before at k : ℕ) (a : Accumulator) (m : Mem) (old answers : List ℕ) : Type 0 where
   pub left : ℕ
   pub done : List (List ℕ)
   pub enough : length batch ≤ before + left
   pub within : before < length batch
   pub count : length done ≡ k
-  pub few : k ≤ cells
+  pub few : k ≤ length old
   pub early : k ≤ before
-  pub long : length answers ≡ cells
+  pub long : length answers ≡ length old
+  pub untouched : drop k answers ≡ drop k old
   pub states : chainOf batch .states ≡ done ++ chainFrom left batch before at .states
   pub ending : chainOf batch .ending ≡ chainFrom left batch before at .ending
   pub run : Run room first (addedAll done (take k answers) []) a m
@@ -155,10 +156,10 @@ pub record Going (batch : List ℕ) (first : Mem) (room before at k : ℕ) (a : 
 pub same-cells : (m : Mem) → Free m m
 same-cells m = record { registers = refl; sparse = refl; pending = refl }
 
-pub going-start : (batch : List ℕ) (m : Mem) (room at : ℕ) (a : Accumulator) (cells : ℕ) (answers : List ℕ) → isBatch batch ≡ true → at ≡ wordAt batch 0
-    → a ≡ fresh → length answers ≡ cells → Going batch m room 0 at 0 a m cells answers
+pub going-start : (batch : List ℕ) (m : Mem) (room at : ℕ) (a : Accumulator) (old answers : List ℕ) → isBatch batch ≡ true → at ≡ wordAt batch 0
+    → a ≡ fresh → answers ≡ old → Going batch m room 0 at 0 a m old answers
 unfolding chainOf addedAll
-going-start batch m room at a cells answers ok e f l =
+going-start batch m room at a old answers ok e f same =
     let size = batch-size batch ok in
     let all = chainFrom (length batch) batch 0 (wordAt batch 0) in
     let whole : chainOf batch ≡ chainFrom (length batch) batch 0 at =
@@ -171,43 +172,45 @@ going-start batch m room at a cells answers ok e f l =
       count = refl;
       few = omega arith;
       early = omega arith;
-      long = l;
+      long = ap length same;
+      untouched = same;
       states = ap (λ (c : Chain). c .states) whole;
       ending = ap (λ (c : Chain). c .ending) whole;
       run = subst (λ (h : Accumulator). Run room m [] h m) (sym f) begun;
       free = same-cells m;
     }
 
-module _ (batch : List ℕ) (first : Mem) (room before at k : ℕ) (a : Accumulator) (m : Mem) (cells : ℕ) (answers : List ℕ)
-    (g : Going batch first room before at k a m cells answers) where
+module _ (batch : List ℕ) (first : Mem) (room before at k : ℕ) (a : Accumulator) (m : Mem) (old answers : List ℕ)
+    (g : Going batch first room before at k a m old answers) where
   -- The states so far are all of the chain's.
   all-done : chainFrom (g .left) batch before at .states ≡ [] → chainOf batch .states ≡ g .done
   all-done e = g .states ∙ ap (λ (l : List (List ℕ)). g .done ++ l) e ∙ append-nil (g .done)
 
   finished : (n : ℕ) (end : Ending) → chainFrom (g .left) batch before at ≡ ends n → cond (eqb n 0) Whole (Refused n) ≡ end
-      → RolledPost batch first room (record { head = a; records = k; ending = end }) m cells answers
+      → RolledPost batch first room (record { head = a; records = k; ending = end }) m old answers
   finished n end e f =
       let all = all-done (ap (λ (c : Chain). c .states) e) in
-      let some : length (chainOf batch .states) ≤ cells = omega (arith, ap length all, g .count, g .few) in
-      let front : statesFor batch cells ≡ g .done = take-all cells (chainOf batch .states) some ∙ all in
+      let some : length (chainOf batch .states) ≤ length old = omega (arith, ap length all, g .count, g .few) in
+      let front : statesFor batch (length old) ≡ g .done = take-all (length old) (chainOf batch .states) some ∙ all in
       let last : chainOf batch .ending ≡ n = g .ending ∙ ap (λ (c : Chain). c .ending) e in
       record {
         records = sym (ap length front ∙ g .count);
         ending =
             sym
             (ap (λ (t : Bool). cond t (cond (eqb (chainOf batch .ending) 0) Whole (Refused (chainOf batch .ending))) Full)
-            (le-leb (length (chainOf batch .states)) cells some)
+            (le-leb (length (chainOf batch .states)) (length old) some)
             ∙ ap (λ (x : ℕ). cond (eqb x 0) Whole (Refused x)) last
             ∙ f);
         run = subst (λ (l : List (List ℕ)). Run room first (addedAll l (take k answers) []) a m) (sym front) (g .run);
+        untouched = g .untouched;
         free = g .free;
       }
 
-  pub stop-whole : at ≡ 0 → RolledPost batch first room (record { head = a; records = k; ending = Whole }) m cells answers
+  pub stop-whole : at ≡ 0 → RolledPost batch first room (record { head = a; records = k; ending = Whole }) m old answers
   stop-whole e = finished 0 Whole (chain-end (g .left) batch before at e) refl
 
   module _ (index : at ≡ 0 → ⊥) where
-    pub stop-refused : isRecord batch before at ≡ false → RolledPost batch first room (record { head = a; records = k; ending = Refused 25 }) m cells answers
+    pub stop-refused : isRecord batch before at ≡ false → RolledPost batch first room (record { head = a; records = k; ending = Refused 25 }) m old answers
     stop-refused e = finished 25 (Refused 25) (chain-bad batch before at (g .within) index (g .left) (g .enough) e) refl
 
     module _ (ok : isRecord batch before at ≡ true) where
@@ -220,26 +223,27 @@ module _ (batch : List ℕ) (first : Mem) (room before at k : ℕ) (a : Accumula
           ∙ ap (λ (c : Chain). g .done ++ c .states) (step .same)
           ∙ sym (append-assoc (g .done) (stateAt batch at ∷ []) (chainFrom (step .fewer) batch at (nextAt batch at) .states))
 
-      pub stop-full : k ≡ cells → RolledPost batch first room (record { head = a; records = k; ending = Full }) m cells answers
+      pub stop-full : k ≡ length old → RolledPost batch first room (record { head = a; records = k; ending = Full }) m old answers
       stop-full e =
           let whole : chainOf batch .states ≡ g .done ++ stateAt batch at ∷ chainFrom (step .fewer) batch at (nextAt batch at) .states =
           g .states ∙ ap (λ (c : Chain). g .done ++ c .states) (step .same) in
-          let many : cells < length (chainOf batch .states) =
+          let many : length old < length (chainOf batch .states) =
           omega (arith, ap length whole, length-append (g .done) (stateAt batch at ∷ chainFrom (step .fewer) batch at (nextAt batch at) .states), g .count) in
-          let front : statesFor batch cells ≡ g .done =
-          ap (λ (l : List (List ℕ)). take cells l) whole ∙ take-at (g .done) (stateAt batch at ∷ chainFrom (step .fewer) batch at (nextAt batch at) .states) cells (g .count ∙ e) in
+          let front : statesFor batch (length old) ≡ g .done =
+          ap (λ (l : List (List ℕ)). take (length old) l) whole ∙ take-at (g .done) (stateAt batch at ∷ chainFrom (step .fewer) batch at (nextAt batch at) .states) (length old) (g .count ∙ e) in
           record {
             records = sym (ap length front ∙ g .count);
             ending =
                 sym
                 (ap (λ (t : Bool). cond t (cond (eqb (chainOf batch .ending) 0) Whole (Refused (chainOf batch .ending))) Full)
-                (lt-leb (length (chainOf batch .states)) cells many));
+                (lt-leb (length (chainOf batch .states)) (length old) many));
             run = subst (λ (l : List (List ℕ)). Run room first (addedAll l (take k answers) []) a m) (sym front) (g .run);
+            untouched = g .untouched;
             free = g .free;
           }
 
-      pub going-turn : (next : ℕ) (s : List ℕ) (r : Added) (n : Mem) → next ≡ nextAt batch at → s ≡ stateAt batch at → k < cells → AddPost a m room s r n
-          → Going batch first room at next (k + 1) (r .head) n cells (set answers k (r .answer))
+      pub going-turn : (next : ℕ) (s : List ℕ) (r : Added) (n : Mem) → next ≡ nextAt batch at → s ≡ stateAt batch at → k < length old → AddPost a m room s r n
+          → Going batch first room at next (k + 1) (r .head) n old (set answers k (r .answer))
       going-turn next s r n e f room-left post =
           let put : take (k + 1) (set answers k (r .answer)) ≡ take k answers ++ r .answer ∷ [] =
           ap (λ (i : ℕ). take i (set answers k (r .answer))) (let z : k + 1 ≡ suc k = omega arith in z)
@@ -258,6 +262,11 @@ module _ (batch : List ℕ) (first : Mem) (room before at k : ℕ) (a : Accumula
             few = omega arith;
             early = omega (arith, g .early, i .above);
             long = length-set answers k (r .answer) ∙ g .long;
+            untouched =
+                drop-set-lt (k + 1) answers k (r .answer) (omega arith)
+                ∙ sym (drop-drop 1 k answers)
+                ∙ ap (λ (l : List ℕ). drop 1 l) (g .untouched)
+                ∙ drop-drop 1 k old;
             states = more ∙ ap (λ (x : ℕ). (g .done ++ stateAt batch at ∷ []) ++ chainFrom (step .fewer) batch at x .states) (sym e);
             ending = g .ending ∙ ap (λ (c : Chain). c .ending) (step .same) ∙ ap (λ (x : ℕ). chainFrom (step .fewer) batch at x .ending) (sym e);
             run = subst (λ (c : List Call). Run room first c (r .head) n) (sym calls) (adding s r n (g .run) post);
@@ -270,16 +279,17 @@ module _ (batch : List ℕ) (first : Mem) (room before at k : ℕ) (a : Accumula
           }
 
 -- Bytes that are no batch: 24, and nothing is added.
-pub no-batch : (batch : List ℕ) (m : Mem) (room : ℕ) (a : Accumulator) (cells : ℕ) (answers : List ℕ) → isBatch batch ≡ false → a ≡ fresh
-    → RolledPost batch m room (record { head = a; records = 0; ending = Refused 24 }) m cells answers
+pub no-batch : (batch : List ℕ) (m : Mem) (room : ℕ) (a : Accumulator) (old answers : List ℕ) → isBatch batch ≡ false → a ≡ fresh → answers ≡ old
+    → RolledPost batch m room (record { head = a; records = 0; ending = Refused 24 }) m old answers
 unfolding chainOf addedAll
-no-batch batch m room a cells answers e f =
+no-batch batch m room a old answers e f same =
     let whole : chainOf batch ≡ ends 24 = ap (λ (t : Bool). cond t (chainFrom (length batch) batch 0 (wordAt batch 0)) (ends 24)) e in
-    let none : statesFor batch cells ≡ [] = ap (λ (c : Chain). take cells (c .states)) whole ∙ take-none cells in
+    let none : statesFor batch (length old) ≡ [] = ap (λ (c : Chain). take (length old) (c .states)) whole ∙ take-none (length old) in
     record {
       records = sym (ap length none);
-      ending = sym (ap (λ (c : Chain). endingFor c cells) whole ∙ ap (λ (t : Bool). cond t (Refused 24) Full) (le-leb 0 cells (omega arith)));
+      ending = sym (ap (λ (c : Chain). endingFor c (length old)) whole ∙ ap (λ (t : Bool). cond t (Refused 24) Full) (le-leb 0 (length old) (omega arith)));
       run = subst (λ (l : List (List ℕ)). Run room m (addedAll l (take 0 answers) []) a m) (sym none) (subst (λ (h : Accumulator). Run room m [] h m) (sym f) begun);
+      untouched = same;
       free = same-cells m;
     }
   where

@@ -75,12 +75,12 @@ module _ (a : Accumulator) (m : Mem) (space : ℕ) where
       (le-leb (registerBytes (a .precision)) space (subst (λ (x : ℕ). x ≤ space) f h))))
 
 -- What a report says of the memory that was lent: no more records than cells, and no more bytes written than the output has.
-pub few-records : {batch : List ℕ} {first : Mem} {room cells space : ℕ} {out : List ℕ} {r : Report} {m : Mem} {answers after : List ℕ}
-    → ReportPost batch first room cells space out r m answers after → r .rolled .records ≤ cells
-few-records {batch} {cells = cells} p = omega (arith, p .rolled .records, length-take cells (chainOf batch .states))
+pub few-records : {batch : List ℕ} {first : Mem} {room : ℕ} {old : List ℕ} {space : ℕ} {out : List ℕ} {r : Report} {m : Mem} {answers after : List ℕ}
+    → ReportPost batch first room old space out r m answers after → r .rolled .records ≤ length old
+few-records {batch} {old = old} p = omega (arith, p .rolled .records, length-take (length old) (chainOf batch .states))
 
-pub written-inside : {batch : List ℕ} {first : Mem} {room cells space : ℕ} {out : List ℕ} {r : Report} {m : Mem} {answers after : List ℕ}
-    → ReportPost batch first room cells space out r m answers after → r .written .len ≤ length after
+pub written-inside : {batch : List ℕ} {first : Mem} {room : ℕ} {old : List ℕ} {space : ℕ} {out : List ℕ} {r : Report} {m : Mem} {answers after : List ℕ}
+    → ReportPost batch first room old space out r m answers after → r .written .len ≤ length after
 written-inside {room = room} {out = out} {r = r} p =
     let bytes = writeOutcome (r .rolled .head) (p .between) room (length out) .bytes in
     omega (arith, p .written .len, ap length (p .written .output), length-append bytes (drop (length bytes) out))

@@ -4,7 +4,7 @@ use mathlib.Core.List.{List, [], _∷_}
 use mathlib.Core.Bool.{cond}
 use Prim.Native.Nat.{ℕ}
 use lib.Dec.{leb, eqb}
-use lib.ListN.{length, take}
+use lib.ListN.{length, take, drop}
 use Rattle.rollup.specs.Accumulator.{Mem}
 use Rattle.rollup.specs.Adding.{Free}
 use Rattle.rollup.specs.Calls.{Call, added, Run}
@@ -27,9 +27,11 @@ endingFor c cells = cond (leb (length (c .states)) cells) (cond (eqb (c .ending)
 abbrev pub statesFor : List ℕ → ℕ → List (List ℕ)
 statesFor batch cells = take cells (chainOf batch .states)
 
--- From a fresh head and the memory as it was lent, each state was added in order, and its answer put into its cell.
-pub record RolledPost (batch : List ℕ) (first : Mem) (room : ℕ) (r : Rolled) (m : Mem) (cells : ℕ) (answers : List ℕ) : Type 0 where
-  pub records : r .records ≡ length (statesFor batch cells)
-  pub ending : r .ending ≡ endingFor (chainOf batch) cells
-  pub run : Run room first (addedAll (statesFor batch cells) (take (r .records) answers) []) (r .head) m
+-- From a fresh head and the memory as it was lent, each state was added in order, and its answer put into its cell. `old` is what the cells for the
+-- answers held: those past the records are untouched. What is free is named in `free`.
+pub record RolledPost (batch : List ℕ) (first : Mem) (room : ℕ) (r : Rolled) (m : Mem) (old answers : List ℕ) : Type 0 where
+  pub records : r .records ≡ length (statesFor batch (length old))
+  pub ending : r .ending ≡ endingFor (chainOf batch) (length old)
+  pub run : Run room first (addedAll (statesFor batch (length old)) (take (r .records) answers) []) (r .head) m
+  pub untouched : drop (r .records) answers ≡ drop (r .records) old
   pub free : Free first m

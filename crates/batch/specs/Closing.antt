@@ -35,10 +35,10 @@ pub record ListCountPre (a : Accumulator) (sparse pending spare : List ℕ) : Ty
   pub waiting-valid : allValid (a .precision) (a .«sparse_precision») (take (a .«pending_len») pending) ≡ true
   pub room : registerBytes (a .precision) ≤ length spare
 
--- The records were added, which left the memory `between`; the registers were counted and the roll-up written as it was then. `cells` cells were lent for
--- the answers and `space` bytes for a list's registers.
-pub record ReportPost (batch : List ℕ) (first : Mem) (room cells space : ℕ) (out : List ℕ) (r : Report) (m : Mem) (answers after : List ℕ) : Type 0 where
+-- The records were added, which left the memory `between`; the registers were counted and the roll-up written as it was then. `old` is what the cells
+-- for the answers held; `space` bytes were lent for a list's registers, and may hold anything afterwards.
+pub record ReportPost (batch : List ℕ) (first : Mem) (room : ℕ) (old : List ℕ) (space : ℕ) (out : List ℕ) (r : Report) (m : Mem) (answers after : List ℕ) : Type 0 where
   pub between : Mem
-  pub rolled : RolledPost batch first room (r .rolled) between cells answers
+  pub rolled : RolledPost batch first room (r .rolled) between old answers
   pub count : r .«not_zero» ≡ countFor (r .rolled .head .form) (r .rolled .head) between space
   pub written : WritePost (r .rolled .head) between room out (r .written) m after

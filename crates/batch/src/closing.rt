@@ -80,7 +80,7 @@ pub fn roll(
     spare: &mut [u8],
     out: &mut [u8],
 ) -> Report
-    ensures { λ r. ⌜ ReportPost (now (batch .entry)) (mem (now (registers .entry)) (now (sparse .entry)) (now (pending .entry))) (length (now (scratch .entry))) (length (now (answers .entry))) (length (now (spare .entry))) (now (out .entry)) r (mem (now (registers .exit)) (now (sparse .exit)) (now (pending .exit))) (now (answers .exit)) (now (out .exit)) ⌝ }
+    ensures { λ r. ⌜ ReportPost (now (batch .entry)) (mem (now (registers .entry)) (now (sparse .entry)) (now (pending .entry))) (length (now (scratch .entry))) (now (answers .entry)) (length (now (spare .entry))) (now (out .entry)) r (mem (now (registers .exit)) (now (sparse .exit)) (now (pending .exit))) (now (answers .exit)) (now (out .exit)) ⌝ }
 {
     let rolled = records::roll_up(batch, registers, sparse, pending, scratch, answers);
     let head = rolled.head;

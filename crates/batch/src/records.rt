@@ -77,7 +77,7 @@ fn add_records(
     answers: &mut [u8],
 ) -> Rolled
     requires { ⌜ isBatch (now batch) ≡ true ⌝ }
-    ensures { λ r. ⌜ RolledPost (now (batch .entry)) (mem (now (registers .entry)) (now (sparse .entry)) (now (pending .entry))) (length (now (scratch .entry))) r (mem (now (registers .exit)) (now (sparse .exit)) (now (pending .exit))) (length (now (answers .entry))) (now (answers .exit)) ⌝ }
+    ensures { λ r. ⌜ RolledPost (now (batch .entry)) (mem (now (registers .entry)) (now (sparse .entry)) (now (pending .entry))) (length (now (scratch .entry))) r (mem (now (registers .exit)) (now (sparse .exit)) (now (pending .exit))) (now (answers .entry)) (now (answers .exit)) ⌝ }
 {
     let mut head = Accumulator::new();
     let mut before: usize = 0;
@@ -133,7 +133,7 @@ pub fn roll_up(
     scratch: &mut [u32],
     answers: &mut [u8],
 ) -> Rolled
-    ensures { λ r. ⌜ RolledPost (now (batch .entry)) (mem (now (registers .entry)) (now (sparse .entry)) (now (pending .entry))) (length (now (scratch .entry))) r (mem (now (registers .exit)) (now (sparse .exit)) (now (pending .exit))) (length (now (answers .entry))) (now (answers .exit)) ⌝ }
+    ensures { λ r. ⌜ RolledPost (now (batch .entry)) (mem (now (registers .entry)) (now (sparse .entry)) (now (pending .entry))) (length (now (scratch .entry))) r (mem (now (registers .exit)) (now (sparse .exit)) (now (pending .exit))) (now (answers .entry)) (now (answers .exit)) ⌝ }
 {
     if !is_batch(batch) {
         let head = Accumulator::new();

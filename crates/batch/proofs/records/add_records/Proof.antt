@@ -16,7 +16,7 @@ use Rattle.batch.proofs.records.add_records.Tie as tie
 
 abbrev Inv-loop : tie.InvT-loop
 Inv-loop batch registers₀ sparse₀ pending₀ scratch₀ answers₀ head₀ before₀ at₀ k₀ registers sparse pending scratch answers head before at k =
-    Going batch (mem registers₀ sparse₀ pending₀) (length scratch₀) before at k head (mem registers sparse pending) (length answers₀) answers
+    Going batch (mem registers₀ sparse₀ pending₀) (length scratch₀) before at k head (mem registers sparse pending) answers₀ answers
     × (length registers ≡ length registers₀)
     × (length sparse ≡ length sparse₀)
     × (length pending ≡ length pending₀)
@@ -38,7 +38,7 @@ word-at-requires : tie.Need-word-at-requires Inv-loop μ-loop
 word-at-requires c κs = omega (arith, (batch-size (now (c .before .before .before .before .before .before .before .args .batch)) (c .before .before .before .before .before .before .before .pre)) .0)
 
 loop-holds : tie.Need-loop-holds Inv-loop μ-loop
-loop-holds c = let o = c .before .before .before .before .before .before .before .before in (going-start (now (o .args .batch)) (m o) (length (now (o .args .scratch))) (c .word-at .result) (c .before .new .result) (length (now (o .args .answers))) (now (o .args .answers)) (o .pre) (c .word-at .ensures .0) (c .before .new .ensures) refl, refl, refl, refl, refl, refl)
+loop-holds c = let o = c .before .before .before .before .before .before .before .before in (going-start (now (o .args .batch)) (m o) (length (now (o .args .scratch))) (c .word-at .result) (c .before .new .result) (now (o .args .answers)) (now (o .args .answers)) (o .pre) (c .word-at .ensures .0) (c .before .new .ensures) refl, refl, refl, refl, refl, refl)
 
 is-record-requires : tie.Need-is-record-requires Inv-loop μ-loop
 is-record-requires c κs = search needs
@@ -59,7 +59,7 @@ same-length-5 : tie.Need-same-length-5 Inv-loop μ-loop
 same-length-5 c = search needs
 
 returns : tie.Need-returns Inv-loop μ-loop
-returns c = let o = c .before .before .before .before .before .before .before .before .before .before .before .before in stop-refused (now (o .args .batch)) (m o) (length (now (o .args .scratch))) (c .before .before .before .loop .before) (c .before .before .before .loop .at) (c .before .before .before .loop .k) (c .before .before .before .loop .head) (mem (c .before .before .before .loop .registers) (c .before .before .before .loop .sparse) (c .before .before .before .loop .pending)) (length (now (o .args .answers))) (c .before .before .before .loop .answers) (c .before .before .before .loop .inv .0) (c .before .before .loop-test .taken) (said-no (c .before .is-record .ensures) (c .if1 .taken))
+returns c = let o = c .before .before .before .before .before .before .before .before .before .before .before .before in stop-refused (now (o .args .batch)) (m o) (length (now (o .args .scratch))) (c .before .before .before .loop .before) (c .before .before .before .loop .at) (c .before .before .before .loop .k) (c .before .before .before .loop .head) (mem (c .before .before .before .loop .registers) (c .before .before .before .loop .sparse) (c .before .before .before .loop .pending)) (now (o .args .answers)) (c .before .before .before .loop .answers) (c .before .before .before .loop .inv .0) (c .before .before .loop-test .taken) (said-no (c .before .is-record .ensures) (c .if1 .taken))
 
 same-length-6 : tie.Need-same-length-6 Inv-loop μ-loop
 same-length-6 c = search needs
@@ -77,7 +77,7 @@ same-length-10 : tie.Need-same-length-10 Inv-loop μ-loop
 same-length-10 c = search needs
 
 returns-2 : tie.Need-returns-2 Inv-loop μ-loop
-returns-2 c = let o = c .before .before .before .before .before .before .before .before .before .before .before .before .before in stop-full (now (o .args .batch)) (m o) (length (now (o .args .scratch))) (c .before .before .before .before .loop .before) (c .before .before .before .before .loop .at) (c .before .before .before .before .loop .k) (c .before .before .before .before .loop .head) (mem (c .before .before .before .before .loop .registers) (c .before .before .before .before .loop .sparse) (c .before .before .before .before .loop .pending)) (length (now (o .args .answers))) (c .before .before .before .before .loop .answers) (c .before .before .before .before .loop .inv .0) (c .before .before .before .loop-test .taken) (said-yes (c .before .before .is-record .ensures) (c .before .if1 .left)) (c .if2 .taken ∙ c .before .before .before .before .loop .inv .5)
+returns-2 c = let o = c .before .before .before .before .before .before .before .before .before .before .before .before .before in stop-full (now (o .args .batch)) (m o) (length (now (o .args .scratch))) (c .before .before .before .before .loop .before) (c .before .before .before .before .loop .at) (c .before .before .before .before .loop .k) (c .before .before .before .before .loop .head) (mem (c .before .before .before .before .loop .registers) (c .before .before .before .before .loop .sparse) (c .before .before .before .before .loop .pending)) (now (o .args .answers)) (c .before .before .before .before .loop .answers) (c .before .before .before .before .loop .inv .0) (c .before .before .before .loop-test .taken) (said-yes (c .before .before .is-record .ensures) (c .before .if1 .left)) (c .if2 .taken ∙ c .before .before .before .before .loop .inv .5)
 
 add-start : tie.Need-add-start Inv-loop μ-loop
 add-start c = omega (arith, (record-inside (now (c .before .before .before .before .before .before .before .before .before .before .before .before .before .args .batch)) (c .before .before .before .before .loop .before) (c .before .before .before .before .loop .at) (said-yes (c .before .before .is-record .ensures) (c .before .if1 .left))) .inside, (batch-size (now (c .before .before .before .before .before .before .before .before .before .before .before .before .before .args .batch)) (c .before .before .before .before .before .before .before .before .before .before .before .before .before .pre)) .1)
@@ -116,7 +116,7 @@ loop-less : tie.Need-loop-less Inv-loop μ-loop
 loop-less c = omega (arith, (record-inside (now (c .before .before .before .before .before .before .before .before .before .before .before .before .before .before .before .before .before .before .before .before .before .before .before .before .before .before .before .before .before .before .args .batch)) (c .before .before .before .before .before .before .before .before .before .before .before .before .before .before .before .before .before .before .before .before .before .loop .before) (c .before .before .before .before .before .before .before .before .before .before .before .before .before .before .before .before .before .before .before .before .before .loop .at) (said-yes (c .before .before .before .before .before .before .before .before .before .before .before .before .before .before .before .before .before .before .before .is-record .ensures) (c .before .before .before .before .before .before .before .before .before .before .before .before .before .before .before .before .before .before .if1 .left))) .above, (record-inside (now (c .before .before .before .before .before .before .before .before .before .before .before .before .before .before .before .before .before .before .before .before .before .before .before .before .before .before .before .before .before .before .args .batch)) (c .before .before .before .before .before .before .before .before .before .before .before .before .before .before .before .before .before .before .before .before .before .loop .before) (c .before .before .before .before .before .before .before .before .before .before .before .before .before .before .before .before .before .before .before .before .before .loop .at) (said-yes (c .before .before .before .before .before .before .before .before .before .before .before .before .before .before .before .before .before .before .before .is-record .ensures) (c .before .before .before .before .before .before .before .before .before .before .before .before .before .before .before .before .before .before .if1 .left))) .inside)
 
 loop-again : tie.Need-loop-again Inv-loop μ-loop
-loop-again c = let o = c .before .before .before .before .before .before .before .before .before .before .before .before .before .before .before .before .before .before .before .before .before .before .before .before .before .before .before .before .before .before in (going-turn (now (o .args .batch)) (m o) (length (now (o .args .scratch))) (c .before .before .before .before .before .before .before .before .before .before .before .before .before .before .before .before .before .before .before .before .before .loop .before) (c .before .before .before .before .before .before .before .before .before .before .before .before .before .before .before .before .before .before .before .before .before .loop .at) (c .before .before .before .before .before .before .before .before .before .before .before .before .before .before .before .before .before .before .before .before .before .loop .k) (c .before .before .before .before .before .before .before .before .before .before .before .before .before .before .before .before .before .before .before .before .before .loop .head) (mem (c .before .before .before .before .before .before .before .before .before .before .before .before .before .before .before .before .before .before .before .before .before .loop .registers) (c .before .before .before .before .before .before .before .before .before .before .before .before .before .before .before .before .before .before .before .before .before .loop .sparse) (c .before .before .before .before .before .before .before .before .before .before .before .before .before .before .before .before .before .before .before .before .before .loop .pending)) (length (now (o .args .answers))) (c .before .before .before .before .before .before .before .before .before .before .before .before .before .before .before .before .before .before .before .before .before .loop .answers) (c .before .before .before .before .before .before .before .before .before .before .before .before .before .before .before .before .before .before .before .before .before .loop .inv .0) (c .before .before .before .before .before .before .before .before .before .before .before .before .before .before .before .before .before .before .before .before .loop-test .taken) (said-yes (c .before .before .before .before .before .before .before .before .before .before .before .before .before .before .before .before .before .before .before .is-record .ensures) (c .before .before .before .before .before .before .before .before .before .before .before .before .before .before .before .before .before .before .if1 .left)) (c .word-at3 .result) (take (c .before .before .before .before .before .before .before .before .before .before .before .before .before .before .before .before .before .before .before .before .before .loop .at + 8 + c .before .before .before .before .before .before .before .before .before .before .before .before .before .before .before .before .word-at2 .result - (c .before .before .before .before .before .before .before .before .before .before .before .before .before .before .before .before .before .before .before .before .before .loop .at + 8)) (drop (c .before .before .before .before .before .before .before .before .before .before .before .before .before .before .before .before .before .before .before .before .before .loop .at + 8) (now (o .args .batch)))) (c .before .before .before .before .before .before .before .before .before .before .add-fitting .result) (mem (c .before .before .before .before .before .before .before .before .before .before .add-fitting .last .1 .0) (c .before .before .before .before .before .before .before .before .before .before .add-fitting .last .1 .1 .0) (c .before .before .before .before .before .before .before .before .before .before .add-fitting .last .1 .1 .1 .0)) (c .word-at3 .ensures .0) (ap (λ (n : ℕ). take n (drop (c .before .before .before .before .before .before .before .before .before .before .before .before .before .before .before .before .before .before .before .before .before .loop .at + 8) (now (o .args .batch)))) (let e : c .before .before .before .before .before .before .before .before .before .before .before .before .before .before .before .before .before .before .before .before .before .loop .at + 8 + c .before .before .before .before .before .before .before .before .before .before .before .before .before .before .before .before .word-at2 .result - (c .before .before .before .before .before .before .before .before .before .before .before .before .before .before .before .before .before .before .before .before .before .loop .at + 8) ≡ lengthAt (now (o .args .batch)) (c .before .before .before .before .before .before .before .before .before .before .before .before .before .before .before .before .before .before .before .before .before .loop .at) = omega (arith, c .before .before .before .before .before .before .before .before .before .before .before .before .before .before .before .before .word-at2 .ensures .0) in e)) (cell-left (c .before .before .before .before .before .before .before .before .before .before .before .before .before .before .before .before .before .before .before .before .before .loop .k) (length (c .before .before .before .before .before .before .before .before .before .before .before .before .before .before .before .before .before .before .before .before .before .loop .answers)) (length (now (o .args .answers))) (c .before .before .before .before .before .before .before .before .before .before .before .before .before .before .before .before .before .before .before .before .before .loop .inv .0 .few) (c .before .before .before .before .before .before .before .before .before .before .before .before .before .before .before .before .before .if2 .left) (c .before .before .before .before .before .before .before .before .before .before .before .before .before .before .before .before .before .before .before .before .before .loop .inv .5)) (subst (λ (n : ℕ). AddPost (c .before .before .before .before .before .before .before .before .before .before .before .before .before .before .before .before .before .before .before .before .before .loop .head) (mem (c .before .before .before .before .before .before .before .before .before .before .before .before .before .before .before .before .before .before .before .before .before .loop .registers) (c .before .before .before .before .before .before .before .before .before .before .before .before .before .before .before .before .before .before .before .before .before .loop .sparse) (c .before .before .before .before .before .before .before .before .before .before .before .before .before .before .before .before .before .before .before .before .before .loop .pending)) n (take (c .before .before .before .before .before .before .before .before .before .before .before .before .before .before .before .before .before .before .before .before .before .loop .at + 8 + c .before .before .before .before .before .before .before .before .before .before .before .before .before .before .before .before .word-at2 .result - (c .before .before .before .before .before .before .before .before .before .before .before .before .before .before .before .before .before .before .before .before .before .loop .at + 8)) (drop (c .before .before .before .before .before .before .before .before .before .before .before .before .before .before .before .before .before .before .before .before .before .loop .at + 8) (now (o .args .batch)))) (c .before .before .before .before .before .before .before .before .before .before .add-fitting .result) (mem (c .before .before .before .before .before .before .before .before .before .before .add-fitting .last .1 .0) (c .before .before .before .before .before .before .before .before .before .before .add-fitting .last .1 .1 .0) (c .before .before .before .before .before .before .before .before .before .before .add-fitting .last .1 .1 .1 .0))) (c .before .before .before .before .before .before .before .before .before .before .before .before .before .before .before .before .before .before .before .before .before .loop .inv .4) (c .before .before .before .before .before .before .before .before .before .before .add-fitting .ensures)), c .before .before .before .before .before .before .before .before .before .before .add-fitting .kept .1 .0 ∙ c .before .before .before .before .before .before .before .before .before .before .before .before .before .before .before .before .before .before .before .before .before .loop .inv .1, c .before .before .before .before .before .before .before .before .before .before .add-fitting .kept .1 .1 .0 ∙ c .before .before .before .before .before .before .before .before .before .before .before .before .before .before .before .before .before .before .before .before .before .loop .inv .2, c .before .before .before .before .before .before .before .before .before .before .add-fitting .kept .1 .1 .1 .0 ∙ c .before .before .before .before .before .before .before .before .before .before .before .before .before .before .before .before .before .before .before .before .before .loop .inv .3, c .before .before .before .before .before .before .before .before .before .before .add-fitting .kept .1 .1 .1 .1 .0 ∙ c .before .before .before .before .before .before .before .before .before .before .before .before .before .before .before .before .before .before .before .before .before .loop .inv .4, length-set (c .before .before .before .before .before .before .before .before .before .before .before .before .before .before .before .before .before .before .before .before .before .loop .answers) (c .before .before .before .before .before .before .before .before .before .before .before .before .before .before .before .before .before .before .before .before .before .loop .k) (c .before .before .before .before .before .before .before .before .before .before .add-fitting .result .answer) ∙ c .before .before .before .before .before .before .before .before .before .before .before .before .before .before .before .before .before .before .before .before .before .loop .inv .5)
+loop-again c = let o = c .before .before .before .before .before .before .before .before .before .before .before .before .before .before .before .before .before .before .before .before .before .before .before .before .before .before .before .before .before .before in (going-turn (now (o .args .batch)) (m o) (length (now (o .args .scratch))) (c .before .before .before .before .before .before .before .before .before .before .before .before .before .before .before .before .before .before .before .before .before .loop .before) (c .before .before .before .before .before .before .before .before .before .before .before .before .before .before .before .before .before .before .before .before .before .loop .at) (c .before .before .before .before .before .before .before .before .before .before .before .before .before .before .before .before .before .before .before .before .before .loop .k) (c .before .before .before .before .before .before .before .before .before .before .before .before .before .before .before .before .before .before .before .before .before .loop .head) (mem (c .before .before .before .before .before .before .before .before .before .before .before .before .before .before .before .before .before .before .before .before .before .loop .registers) (c .before .before .before .before .before .before .before .before .before .before .before .before .before .before .before .before .before .before .before .before .before .loop .sparse) (c .before .before .before .before .before .before .before .before .before .before .before .before .before .before .before .before .before .before .before .before .before .loop .pending)) (now (o .args .answers)) (c .before .before .before .before .before .before .before .before .before .before .before .before .before .before .before .before .before .before .before .before .before .loop .answers) (c .before .before .before .before .before .before .before .before .before .before .before .before .before .before .before .before .before .before .before .before .before .loop .inv .0) (c .before .before .before .before .before .before .before .before .before .before .before .before .before .before .before .before .before .before .before .before .loop-test .taken) (said-yes (c .before .before .before .before .before .before .before .before .before .before .before .before .before .before .before .before .before .before .before .is-record .ensures) (c .before .before .before .before .before .before .before .before .before .before .before .before .before .before .before .before .before .before .if1 .left)) (c .word-at3 .result) (take (c .before .before .before .before .before .before .before .before .before .before .before .before .before .before .before .before .before .before .before .before .before .loop .at + 8 + c .before .before .before .before .before .before .before .before .before .before .before .before .before .before .before .before .word-at2 .result - (c .before .before .before .before .before .before .before .before .before .before .before .before .before .before .before .before .before .before .before .before .before .loop .at + 8)) (drop (c .before .before .before .before .before .before .before .before .before .before .before .before .before .before .before .before .before .before .before .before .before .loop .at + 8) (now (o .args .batch)))) (c .before .before .before .before .before .before .before .before .before .before .add-fitting .result) (mem (c .before .before .before .before .before .before .before .before .before .before .add-fitting .last .1 .0) (c .before .before .before .before .before .before .before .before .before .before .add-fitting .last .1 .1 .0) (c .before .before .before .before .before .before .before .before .before .before .add-fitting .last .1 .1 .1 .0)) (c .word-at3 .ensures .0) (ap (λ (n : ℕ). take n (drop (c .before .before .before .before .before .before .before .before .before .before .before .before .before .before .before .before .before .before .before .before .before .loop .at + 8) (now (o .args .batch)))) (let e : c .before .before .before .before .before .before .before .before .before .before .before .before .before .before .before .before .before .before .before .before .before .loop .at + 8 + c .before .before .before .before .before .before .before .before .before .before .before .before .before .before .before .before .word-at2 .result - (c .before .before .before .before .before .before .before .before .before .before .before .before .before .before .before .before .before .before .before .before .before .loop .at + 8) ≡ lengthAt (now (o .args .batch)) (c .before .before .before .before .before .before .before .before .before .before .before .before .before .before .before .before .before .before .before .before .before .loop .at) = omega (arith, c .before .before .before .before .before .before .before .before .before .before .before .before .before .before .before .before .word-at2 .ensures .0) in e)) (cell-left (c .before .before .before .before .before .before .before .before .before .before .before .before .before .before .before .before .before .before .before .before .before .loop .k) (length (c .before .before .before .before .before .before .before .before .before .before .before .before .before .before .before .before .before .before .before .before .before .loop .answers)) (length (now (o .args .answers))) (c .before .before .before .before .before .before .before .before .before .before .before .before .before .before .before .before .before .before .before .before .before .loop .inv .0 .few) (c .before .before .before .before .before .before .before .before .before .before .before .before .before .before .before .before .before .if2 .left) (c .before .before .before .before .before .before .before .before .before .before .before .before .before .before .before .before .before .before .before .before .before .loop .inv .5)) (subst (λ (n : ℕ). AddPost (c .before .before .before .before .before .before .before .before .before .before .before .before .before .before .before .before .before .before .before .before .before .loop .head) (mem (c .before .before .before .before .before .before .before .before .before .before .before .before .before .before .before .before .before .before .before .before .before .loop .registers) (c .before .before .before .before .before .before .before .before .before .before .before .before .before .before .before .before .before .before .before .before .before .loop .sparse) (c .before .before .before .before .before .before .before .before .before .before .before .before .before .before .before .before .before .before .before .before .before .loop .pending)) n (take (c .before .before .before .before .before .before .before .before .before .before .before .before .before .before .before .before .before .before .before .before .before .loop .at + 8 + c .before .before .before .before .before .before .before .before .before .before .before .before .before .before .before .before .word-at2 .result - (c .before .before .before .before .before .before .before .before .before .before .before .before .before .before .before .before .before .before .before .before .before .loop .at + 8)) (drop (c .before .before .before .before .before .before .before .before .before .before .before .before .before .before .before .before .before .before .before .before .before .loop .at + 8) (now (o .args .batch)))) (c .before .before .before .before .before .before .before .before .before .before .add-fitting .result) (mem (c .before .before .before .before .before .before .before .before .before .before .add-fitting .last .1 .0) (c .before .before .before .before .before .before .before .before .before .before .add-fitting .last .1 .1 .0) (c .before .before .before .before .before .before .before .before .before .before .add-fitting .last .1 .1 .1 .0))) (c .before .before .before .before .before .before .before .before .before .before .before .before .before .before .before .before .before .before .before .before .before .loop .inv .4) (c .before .before .before .before .before .before .before .before .before .before .add-fitting .ensures)), c .before .before .before .before .before .before .before .before .before .before .add-fitting .kept .1 .0 ∙ c .before .before .before .before .before .before .before .before .before .before .before .before .before .before .before .before .before .before .before .before .before .loop .inv .1, c .before .before .before .before .before .before .before .before .before .before .add-fitting .kept .1 .1 .0 ∙ c .before .before .before .before .before .before .before .before .before .before .before .before .before .before .before .before .before .before .before .before .before .loop .inv .2, c .before .before .before .before .before .before .before .before .before .before .add-fitting .kept .1 .1 .1 .0 ∙ c .before .before .before .before .before .before .before .before .before .before .before .before .before .before .before .before .before .before .before .before .before .loop .inv .3, c .before .before .before .before .before .before .before .before .before .before .add-fitting .kept .1 .1 .1 .1 .0 ∙ c .before .before .before .before .before .before .before .before .before .before .before .before .before .before .before .before .before .before .before .before .before .loop .inv .4, length-set (c .before .before .before .before .before .before .before .before .before .before .before .before .before .before .before .before .before .before .before .before .before .loop .answers) (c .before .before .before .before .before .before .before .before .before .before .before .before .before .before .before .before .before .before .before .before .before .loop .k) (c .before .before .before .before .before .before .before .before .before .before .add-fitting .result .answer) ∙ c .before .before .before .before .before .before .before .before .before .before .before .before .before .before .before .before .before .before .before .before .before .loop .inv .5)
 
 same-length-11 : tie.Need-same-length-11 Inv-loop μ-loop
 same-length-11 c = search needs
@@ -134,7 +134,7 @@ same-length-15 : tie.Need-same-length-15 Inv-loop μ-loop
 same-length-15 c = search needs
 
 returns-3 : tie.Need-returns-3 Inv-loop μ-loop
-returns-3 c = let o = c .before .before .before .before .before .before .before .before .before .before in stop-whole (now (o .args .batch)) (m o) (length (now (o .args .scratch))) (c .before .loop .before) (c .before .loop .at) (c .before .loop .k) (c .before .loop .head) (mem (c .before .loop .registers) (c .before .loop .sparse) (c .before .loop .pending)) (length (now (o .args .answers))) (c .before .loop .answers) (c .before .loop .inv .0) (c .loop-test .left)
+returns-3 c = let o = c .before .before .before .before .before .before .before .before .before .before in stop-whole (now (o .args .batch)) (m o) (length (now (o .args .scratch))) (c .before .loop .before) (c .before .loop .at) (c .before .loop .k) (c .before .loop .head) (mem (c .before .loop .registers) (c .before .loop .sparse) (c .before .loop .pending)) (now (o .args .answers)) (c .before .loop .answers) (c .before .loop .inv .0) (c .loop-test .left)
 
 pub add-records-spec : {M : Type 1} → statement M
 add-records-spec =

@@ -1,4 +1,5 @@
 -- Question 24, and then the loop.
+use mathlib.Core.Path.{refl}
 use lib.ListN.{length}
 use denote.Ref.{now}
 use Rattle.wire.proofs.BoolLaws.{said-yes, said-no}
@@ -15,7 +16,7 @@ new-requires : tie.Need-new-requires
 new-requires c κs = search needs
 
 returns : tie.Need-returns
-returns c = let o = c .before .before .before .before .before .before .before .before .before in no-batch (now (o .args .batch)) (mem (now (o .args .registers)) (now (o .args .sparse)) (now (o .args .pending))) (length (now (o .args .scratch))) (c .new .result) (length (now (o .args .answers))) (now (o .args .answers)) (said-no (c .before .before .is-batch .ensures) (c .before .if1 .taken)) (c .new .ensures)
+returns c = let o = c .before .before .before .before .before .before .before .before .before in no-batch (now (o .args .batch)) (mem (now (o .args .registers)) (now (o .args .sparse)) (now (o .args .pending))) (length (now (o .args .scratch))) (c .new .result) (now (o .args .answers)) (now (o .args .answers)) (said-no (c .before .before .is-batch .ensures) (c .before .if1 .taken)) (c .new .ensures) refl
 
 add-records-requires : tie.Need-add-records-requires
 add-records-requires c κs = said-yes (c .before .before .before .before .before .before .is-batch .ensures) (c .before .before .before .before .before .if1 .left)

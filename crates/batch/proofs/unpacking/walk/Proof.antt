@@ -1,6 +1,6 @@
 -- Question 24, and then the loop.
 use denote.Ref.{now}
-use Rattle.rollup.proofs.JudgeLaws.{said-yes, said-no}
+use Rattle.wire.proofs.BoolLaws.{said-yes, said-no}
 use Rattle.batch.proofs.UnpackingLaws.{walked-none}
 use borrow.Author.Needs.{needs}
 use Rattle.batch.proofs.unpacking.walk.Statement.{statement}

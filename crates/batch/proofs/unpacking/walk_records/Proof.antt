@@ -4,7 +4,7 @@ use Prim.Native.Nat.{_-_, _^_, _<_}
 use native.Mathlib.Omega.{arith}
 use lib.ListN.{length, length-set}
 use denote.Ref.{now}
-use Rattle.rollup.proofs.JudgeLaws.{said-yes, said-no}
+use Rattle.wire.proofs.BoolLaws.{said-yes, said-no}
 use Rattle.batch.proofs.ChainLaws.{record-inside, batch-size}
 use Rattle.batch.proofs.UnpackingLaws.{Walking, walking-start, walking-turn, walked-whole, walked-refused, room-left}
 use borrow.Author.Needs.{needs}
