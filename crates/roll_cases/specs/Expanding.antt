@@ -2,8 +2,10 @@
 -- behind it, which stands there so many times.
 use mathlib.Core.Path.{_≡_}
 use mathlib.Core.List.{List, [], _∷_, _++_}
+use mathlib.Core.Bool.{cond}
 use mathlib.Core.Option.{Option, none, some}
 use Prim.Native.Nat.{ℕ, zero, suc, _+_, _<_}
+use lib.Dec.{eqb}
 use lib.ListN.{length, take, drop}
 use Rattle.io.specs.Counts.{Counts}
 use Rattle.cases.specs.declared.input.Bytes.{Bytes}
@@ -40,9 +42,8 @@ wordBytes w = timesBy (times (drop (upTo 42 w) w)) (hexOf (take (upTo 42 w) w))
 
 -- The words of a line from the first one on. A blank, 32, ends a word. The first argument bounds their number: a line's length suffices.
 unfoldable pub wordsBytes : ℕ → List ℕ → Option (List ℕ)
-wordsBytes n [] = some []
-wordsBytes zero (b ∷ l) = some []
-wordsBytes (suc n) (b ∷ l) = joined (wordBytes (take (upTo 32 (b ∷ l)) (b ∷ l))) (wordsBytes n (drop (upTo 32 (b ∷ l) + 1) (b ∷ l)))
+wordsBytes zero l = some []
+wordsBytes (suc n) l = cond (eqb (length l) 0) (some []) (joined (wordBytes (take (upTo 32 l) l)) (wordsBytes n (drop (upTo 32 l + 1) l)))
 
 abbrev pub lineBytes : List ℕ → Option (List ℕ)
 lineBytes line = wordsBytes (length line) line
