@@ -1,12 +1,13 @@
 //! Makes the cases of `crates/rollup_cases` and what must be printed for each: sequences of calls. The answers, heads, lists and registers are
-//! those of the Rust original (`compare/original`). What it has no counterpart of is worked out here from document 01: question 1, question 17,
-//! lent memory, the kept bytes of a dense head, and the merge that "Difference" asks for. Where a document gives an answer, it stands
-//! here as an expectation, and another answer stops the run.
+//! those of the Rust original (`compare/original`), and so are the written states. What it has no counterpart of is worked out here from document
+//! 01: questions 1, 17, 21, 22 and 23, lent memory, the kept bytes of a dense head, and the merge that "Difference" asks for. Where a document gives
+//! an answer, it stands here as an expectation, and another answer stops the run.
 
 mod cases;
 
 use cases::{hex, mark, marked, text, unhex, Cases, Chance, Pair};
 use original::{Accumulator, Fields, Probe};
+use std::collections::BTreeSet;
 
 /// What lent memory is filled with.
 const REGISTER: u8 = 165;
@@ -69,6 +70,14 @@ fn ascends(list: &[u32]) -> bool {
 fn repeats(p: i32, s: i32, list: &[u32]) -> bool {
     let mark = mark((p, s));
     list.windows(2).any(|w| w[0] == w[1] || w[0] >= mark && (w[0] - mark) / 64 == (w[1] - mark) / 64)
+}
+
+/// The sparse index of a value (module 3): a plain value is one, a marked one has the index of a register.
+fn index((p, s): Pair, v: u32) -> u32 {
+    match v.checked_sub(mark((p, s))) {
+        None => v,
+        Some(rest) => rest / 64 << (s - p),
+    }
 }
 
 impl Rollup {
@@ -179,6 +188,51 @@ impl Rollup {
         (0, differs)
     }
 
+    /// The answer to writing into an output of this many bytes, and the written bytes: the original's where no question is answered no.
+    fn write(&self, space: usize) -> (u8, Vec<u8>) {
+        let h = &self.head;
+        if !self.fits() {
+            return (1, Vec::new());
+        }
+        let rust = self.rust.clone().unwrap_or_else(|| self.accumulator());
+        let Some(bytes) = rust.serialize() else {
+            assert_eq!(h.form, UNSTARTED);
+            return (21, Vec::new());
+        };
+        if (self.working as u64) < h.kept + h.waiting {
+            return (17, Vec::new());
+        }
+        // With values waiting, kept bytes + 5 x waiting is below L, and the written length is no more.
+        if h.form == SPARSE && h.waiting == 0 && original::encode_sparse(self.kept()).len() as u64 >= limit(h.p) {
+            assert!(Fields::parse(&bytes).expect("a state").data.is_some(), "the sketch writes registers where 22 is expected");
+            return (22, Vec::new());
+        }
+        self.look_at(&bytes);
+        if space < bytes.len() {
+            return (23, Vec::new());
+        }
+        (0, bytes)
+    }
+
+    /// Document 01 on a written state.
+    fn look_at(&self, bytes: &[u8]) {
+        let h = &self.head;
+        let f = Fields::parse(bytes).expect("a state");
+        assert_eq!((f.kind, f.encoding_version, f.value_type, f.num_values), (112, 2, h.value_type, h.num_values));
+        assert_eq!((f.precision, f.sparse_precision), (h.p, h.s));
+        if h.form == DENSE {
+            assert_eq!((f.sparse_size, f.data, f.sparse_data), (h.size, Some(self.registers[..1 << h.p].to_vec()), None));
+            return;
+        }
+        let list = f.sparse_data.expect("a list roll-up has field 6 even when empty");
+        assert!(f.data.is_none() && (list.len() as u64) < limit(h.p));
+        let indices: BTreeSet<u32> = self.kept().iter().chain(self.waiting()).map(|v| index((h.p, h.s), *v)).collect();
+        assert_eq!(f.sparse_size, if h.waiting == 0 { h.size } else { indices.len() as i32 });
+        if h.waiting == 0 {
+            assert_eq!(list, original::encode_sparse(self.kept()));
+        }
+    }
+
     /// The head and the memory become what the original holds.
     fn take(&mut self, x: &Probe) {
         let before = self.head.clone();
@@ -208,15 +262,28 @@ impl Rollup {
         }
     }
 
-    fn answer(&self, answer: u8) -> String {
-        let h = &self.head;
+    fn memory(&self) -> String {
         let mut waiting = self.waiting().to_vec();
         waiting.sort();
+        format!("{} {} {}", text(self.kept()), text(&waiting), runs(&self.registers))
+    }
+
+    fn answer(&self, answer: u8) -> String {
+        let h = &self.head;
         format!(
-            "{answer} {} {} {} {} {} {} {} {} {} {} {} {} {}",
+            "{answer} {} {} {} {} {} {} {} {} {} {} {}",
             h.form, h.allowed, h.value_type, h.num_values, h.p, h.s, h.size, h.kept, h.bytes, h.waiting,
-            text(self.kept()), text(&waiting), runs(&self.registers)
+            self.memory()
         )
+    }
+}
+
+/// A written state in an answer: a long one as registers are.
+fn state(bytes: &[u8]) -> String {
+    match bytes.len() {
+        0 => ".".to_string(),
+        1..=256 => hex(bytes),
+        _ => runs(bytes),
     }
 }
 
@@ -275,6 +342,8 @@ struct Made {
     chance: Chance,
     roll: Rollup,
     differences: usize,
+    /// How often `near` wrote.
+    turn: usize,
 }
 
 impl Made {
@@ -350,6 +419,56 @@ impl Made {
         self.bytes(want, &unhex(state));
     }
 
+    /// Writes into an output of this many bytes.
+    fn output(&mut self, kind: &str, space: usize) -> (u8, Vec<u8>) {
+        assert!(space <= 20480 && (kind == "o" || self.roll.fits()));
+        let (answer, bytes) = self.roll.write(space);
+        self.all.counted(kind, &space.to_string(), &format!("{answer} {} {}", state(&bytes), self.roll.memory()), format!("{kind} answered {answer}"));
+        (answer, bytes)
+    }
+
+    /// A write whose answer is known.
+    fn write(&mut self, want: u8, space: usize) -> Vec<u8> {
+        let (answer, bytes) = self.output("o", space);
+        assert_eq!(answer, want, "writing {:?}", self.roll.head);
+        bytes
+    }
+
+    fn written(&mut self) -> Vec<u8> {
+        self.write(0, 4096)
+    }
+
+    /// Writes into an output that fits exactly, one byte less, and one byte more, by both functions.
+    fn spaces(&mut self) {
+        let n = self.written().len();
+        for (space, want) in [(n, 0), (n - 1, 23), (n + 1, 0), (0, 23)] {
+            self.write(want, space);
+            assert_eq!(self.output("u", space).0, want);
+        }
+    }
+
+    /// A list roll-up turns dense by registers that are all zero, which shows its own. A dense one has them.
+    fn shown(&mut self) -> Vec<u8> {
+        let (p, s) = (self.roll.head.p, self.roll.head.s);
+        if self.roll.head.form == SPARSE {
+            self.add(0, &dense((p, s), &vec![0; 1 << p]));
+        }
+        self.roll.registers[..1 << p].to_vec()
+    }
+
+    /// Writes, and adds what was written to a fresh roll-up with the same memory: it writes the same, and has the same registers.
+    fn again(&mut self) {
+        let bytes = self.written();
+        let before = self.roll.clone();
+        let registers = self.shown();
+        self.lend(before.registers.len(), before.kept.len(), before.waiting.len(), before.working);
+        self.bytes(0, &bytes);
+        let head = &self.roll.head;
+        assert_eq!((head.form, head.p, head.s, head.value_type, head.num_values), (before.head.form, before.head.p, before.head.s, before.head.value_type, before.head.num_values));
+        assert_eq!(self.written(), bytes);
+        assert_eq!(self.shown(), registers);
+    }
+
     /// What is asked of a head.
     fn ask(&mut self) {
         let a = self.roll.rust.clone().unwrap_or_else(|| self.roll.accumulator());
@@ -390,6 +509,7 @@ fn examples(made: &mut Made) {
     made.add(0, &dense((10, 10), &registers(10, &[(1023, 55)])));
     made.add(0, &list((10, 10), &[1]));
     assert_eq!(made.roll.registers[1], 64);
+    made.spaces();
     made.all.remark("12 list bytes at p = 4, which is L, are kept as a list by the first state");
     made.fresh(4);
     made.add(0, &list((4, 9), &upto(0, 12)));
@@ -760,6 +880,7 @@ fn unfit(made: &mut Made) {
         made.set_kept(kept);
         made.set_waiting(waiting);
         made.head(h);
+        made.output("o", 64);
     };
     made.all.remark("1: an unstarted head with a count that is not 0; other numbers do not matter, and the first state sets them all");
     for (kept, waiting, want) in [(1, 0, 1), (0, 1, 1), (u64::MAX, u64::MAX, 1), (0, 0, 0)] {
@@ -778,6 +899,7 @@ fn unfit(made: &mut Made) {
         made.lend(r, 20, 20, 20);
         made.set_registers(bytes);
         made.head(h);
+        made.write(want, 64);
         made.add(want, &state);
     };
     d(made, dense_head.clone(), 35, &regs, 0);
@@ -856,6 +978,7 @@ fn unfit(made: &mut Made) {
         let values: Vec<u32> = (0..2049).map(|i| i % 10).collect();
         made.set_waiting(&values);
         made.head(Head { form: SPARSE, allowed: 15, p: 14, s: 14, waiting, ..Head::default() });
+        made.write(want, 64);
         made.add(want, &neither((14, 14)));
     }
     made.all.remark("1 comes before 2 to 20: no bytes, a bad tag");
@@ -1051,8 +1174,10 @@ fn edges(made: &mut Made) {
     made.add(0, &list(pair, &upto(1025, 1024)));
     assert_eq!(made.roll.head.waiting, 2048);
     made.add(0, &neither(pair));
+    made.written();
     made.add(0, &list(pair, &[9]));
     assert_eq!((made.roll.head.waiting, made.roll.head.kept), (0, 2049));
+    made.written();
     made.lend(16384, 8192, 8192, 8192);
     made.add(0, &list(pair, &[5000]));
     made.add(0, &list(pair, &upto(1, 2049)));
@@ -1160,7 +1285,275 @@ impl Made {
         let state = self.some_state(pair);
         let state = if self.chance.below(6) == 0 { self.damaged(&state) } else { state };
         let kind = if self.chance.below(4) == 0 { "f" } else { "a" };
-        self.call(kind, &state);
+        if self.call(kind, &state) == 0 {
+            self.near();
+        }
+    }
+
+    /// Writes into an output that just fits, that is one byte short, or that has room, in turn and by both functions.
+    fn near(&mut self) {
+        let (answer, bytes) = self.roll.write(4096);
+        let turn = self.turn;
+        self.turn += 1;
+        let space = match (answer, turn % 4) {
+            (0, 0 | 1) => bytes.len(),
+            (0, 2) => bytes.len() - 1,
+            _ => 300,
+        };
+        self.output(if turn % 3 == 0 { "u" } else { "o" }, space);
+    }
+}
+
+/// A list roll-up with these values kept and waiting, by its head; its lists have room for no more, nor has working.
+fn set_list(made: &mut Made, pair: Pair, kept: &[u32], waiting: &[u32], working: usize) {
+    made.lend(0, kept.len(), waiting.len(), working);
+    made.set_kept(kept);
+    made.set_waiting(waiting);
+    let bytes = original::encode_sparse(kept).len() as u64;
+    made.head(Head { form: SPARSE, allowed: 15, num_values: 5, p: pair.0, s: pair.1, size: 77, kept: kept.len() as u64, bytes, waiting: waiting.len() as u64, ..Head::default() });
+    assert!(made.roll.fits());
+}
+
+fn writing_questions(made: &mut Made) {
+    let four = (4, 9);
+    let pair = (5, 10);
+    made.all.remark("Writing. Document 01, case B1: state A twice, written before, between and after");
+    made.lend(1024, 12, 12, 12);
+    made.write(21, 64);
+    made.hexed(0, A);
+    assert_eq!(made.written(), unhex(A));
+    made.hexed(0, A);
+    assert_eq!(made.written(), unhex("087010041802200882070c1002180a200f320421e28004"));
+    made.again();
+    made.all.remark("21: an unstarted roll-up, whatever its other numbers and what is lent; it comes before 17 and 23");
+    made.lend(0, 0, 0, 0);
+    made.write(21, 0);
+    assert_eq!(made.output("u", 0).0, 21);
+    made.add(17, &neither(four));
+    made.write(21, 64);
+    made.fresh(4);
+    made.head(Head { form: UNSTARTED, allowed: 9, value_type: 8, num_values: 3, p: 4, s: 9, size: 1, bytes: 5, ..Head::default() });
+    made.write(21, 64);
+    made.all.remark("1 comes before 21, 17, 22 and 23: counts of an unstarted head; kept past its list, and at L; no output");
+    made.lend(0, 0, 0, 0);
+    made.head(Head { form: UNSTARTED, kept: 1, ..Head::default() });
+    made.write(1, 0);
+    made.head(Head { form: SPARSE, p: 4, s: 9, kept: 12, bytes: 12, ..Head::default() });
+    made.write(1, 0);
+    made.head(Head { form: DENSE, p: 4, s: 9, ..Head::default() });
+    made.write(1, 0);
+    made.all.remark("17: working one cell too short, and enough, with and without values waiting; the registers are not asked for");
+    for (kept, waiting) in [(vec![3, 5, 9], vec![8, 7]), (vec![3, 5, 9], vec![]), (vec![], vec![8, 7]), (vec![], vec![1])] {
+        let n = kept.len() + waiting.len();
+        set_list(made, pair, &kept, &waiting, n - 1);
+        made.write(17, 64);
+        assert_eq!(made.output("u", 64).0, 17);
+        set_list(made, pair, &kept, &waiting, n);
+        made.write(0, 64);
+        assert_eq!(made.output("u", 64).0, 0);
+    }
+    made.all.remark("17: kept + waiting counts, though the merge has fewer values; an empty list and a dense roll-up want no cell");
+    set_list(made, pair, &[3, 5, 9], &[5, 9], 4);
+    made.write(17, 64);
+    set_list(made, pair, &[], &[], 0);
+    made.written();
+    made.lend(16, 0, 0, 0);
+    made.add(0, &dense(four, &[1; 16]));
+    made.written();
+    made.all.remark("17 comes before 22 and 23, 22 before 23");
+    set_list(made, four, &upto(0, 12), &[], 11);
+    made.write(17, 0);
+    set_list(made, four, &upto(0, 3), &[], 2);
+    made.write(17, 0);
+    set_list(made, four, &upto(0, 12), &[], 12);
+    made.write(22, 0);
+    assert_eq!(made.output("u", 0).0, 22);
+    made.all.remark("22, E7: at p = 4 a list of 11 bytes is written, one of 12 refused. The same at p = 5, 6 and 8; far above L; repeats and long gaps: bytes count, not values");
+    for n in [11, 12, 13, 40] {
+        made.after(4, &[&list(four, &upto(0, n))]);
+        made.write(if n == 11 { 0 } else { 22 }, 64);
+    }
+    for (p, s) in [(5, 10), (6, 11), (8, 13)] {
+        for n in [limit(p) - 1, limit(p)] {
+            made.lend(1 << p, 200, 200, 200);
+            made.add(0, &list((p, s), &upto(0, n as u32)));
+            made.write(if n < limit(p) { 0 } else { 22 }, 400);
+        }
+    }
+    let gaps = [0, 128, 256, 384, 1024, 1216, 1217];
+    for (values, want) in [(&[3; 11][..], 0), (&[3; 12], 22), (&gaps[..6], 0), (&gaps, 22)] {
+        made.after(4, &[&list(four, values)]);
+        made.write(want, 64);
+    }
+    made.all.remark("22 asks for the written length: gaps spelled long, kept bytes L and more, are written short; 12 of them are not");
+    for (n, long) in [(11, 1), (11, 11), (1, 1), (12, 1)] {
+        made.after(4, &[&raw(four, n as i32, &spelled(n, long))]);
+        made.write(if n == 12 { 22 } else { 0 }, 64);
+    }
+    made.after(4, &[&raw(four, 3, &unhex("8380808000 8080808000 8180808000"))]);
+    assert_eq!(made.roll.head.bytes, 15);
+    made.written();
+    made.head(Head { form: SPARSE, allowed: 15, p: 4, s: 9, size: 3, kept: 3, bytes: 2147483647, ..Head::default() });
+    made.written();
+    made.all.remark("22 leaves the roll-up as it was: a state with neither keeps it so, a list turns it dense, which is written");
+    made.after(4, &[&list(four, &upto(0, 12))]);
+    made.write(22, 64);
+    made.add(0, &neither(four));
+    made.write(22, 64);
+    made.add(0, &list(four, &[300]));
+    made.form(DENSE);
+    made.again();
+    made.all.remark("22 with values waiting does not come up: kept bytes + 5 x waiting is L-1");
+    set_list(made, four, &[3], &[marked(four, 15, 56), marked(four, 3, 1)], 3);
+    made.written();
+    made.all.remark("23: an output that fits exactly, one byte less, one more, none: a list, values waiting, an empty list, registers");
+    made.after(5, &[&list(pair, &[3, 700])]);
+    made.spaces();
+    made.add(0, &list(pair, &[5]));
+    made.spaces();
+    made.after(5, &[&neither(pair)]);
+    made.spaces();
+    made.after(4, &[&Fields { num_values: -1, sparse_size: -1, ..dense((4, -1), &registers(4, &[(3, 7)])) }]);
+    made.spaces();
+    made.all.remark("23 where lengths take one byte more: a nested message of 127 and 128 bytes, a list of 127 and 128; registers at p = 6, 7 and 14");
+    for n in [119, 120, 127, 128] {
+        made.lend(256, 200, 200, 200);
+        made.add(0, &list((8, 13), &upto(1, n)));
+        let size = made.written().len();
+        made.write(0, size);
+        made.write(23, size - 1);
+    }
+    for p in [6, 7] {
+        made.lend(1 << p, 0, 0, 0);
+        made.set_registers(&registers(p, &[(1, 7), ((1 << p) - 1, 9)]));
+        made.head(Head { form: DENSE, allowed: 15, p, s: 20, ..Head::default() });
+        let size = made.written().len();
+        made.write(0, size);
+        made.write(23, size - 1);
+    }
+    made.lend(16384, 18, 18, 18);
+    made.set_kept(&upto(1, 16));
+    made.head(Head { form: SPARSE, allowed: 15, num_values: 16, p: 14, s: 20, size: 16, kept: 16, bytes: limit(14), ..Head::default() });
+    made.add(0, &list((14, 20), &[1000]));
+    made.form(DENSE);
+    made.write(23, 4096);
+    let size = made.write(0, 20480).len();
+    assert!(size > 16384);
+    made.write(0, size);
+    made.write(23, size - 1);
+}
+
+fn writing_lists(made: &mut Made) {
+    let pair = (5, 10);
+    let m = |i, m| marked(pair, i, m);
+    made.all.remark("Nothing waiting: kept as it is, repeats as zero gaps, long spellings short; the first state's sparse size, a negative one in ten bytes");
+    let repeats = original::encode_sparse(&[3, 3, 3, m(1, 2), m(1, 2), m(1, 5)]);
+    for (size, bytes) in [(-7, &repeats[..]), (6, &repeats), (0, &[]), (i32::MIN, &[5]), (i32::MAX, &unhex("8380808000 00 8000 01"))] {
+        made.after(5, &[&raw(pair, size, bytes)]);
+        assert_eq!(made.written(), made.written());
+        made.again();
+    }
+    made.all.remark("An empty list has field 6: of a state with an empty one, and of a state with neither");
+    for f in [neither(pair), Fields { sparse_data: Some(Vec::new()), ..neither(pair) }, Fields { data: Some(Vec::new()), ..neither(pair) }] {
+        made.after(5, &[&f]);
+        assert!(made.written().ends_with(&[0x32, 0x00]));
+        made.again();
+    }
+    made.all.remark("Values waiting: all as one list, and the sparse size is how many indices there are. Plain 32 and a marked value of index 1 count once, and both are written");
+    let cases: [(&[u32], &[u32], i32, &[u32]); 12] = [
+        (&[32], &[m(1, 3)], 1, &[32, m(1, 3)]),
+        (&[m(1, 3)], &[32], 1, &[32, m(1, 3)]),
+        (&[], &[m(1, 3), 32], 1, &[32, m(1, 3)]),
+        (&[32, m(1, 3)], &[64], 2, &[32, 64, m(1, 3)]),
+        (&[33], &[m(1, 3)], 2, &[33, m(1, 3)]),
+        (&[m(1, 3)], &[m(1, 5)], 1, &[m(1, 5)]),
+        (&[m(1, 5)], &[m(1, 3)], 1, &[m(1, 5)]),
+        (&[3], &[3], 1, &[3]),
+        (&[3, 3], &[4], 2, &[3, 4]),
+        (&[0, m(0, 0)], &[0, m(0, 1)], 1, &[0, m(0, 1)]),
+        (&[5, 9], &[8, 7, 8], 4, &[5, 7, 8, 9]),
+        (&[], &[m(31, 55), 1023, m(31, 0), 992], 2, &[992, 1023, m(31, 55)]),
+    ];
+    for (kept, waiting, size, values) in cases {
+        set_list(made, pair, kept, waiting, kept.len() + waiting.len());
+        let f = Fields::parse(&made.written()).expect("a state");
+        assert_eq!(f.sparse_size, size);
+        assert_eq!(f.sparse_data, Some(original::encode_sparse(values)));
+        made.write(0, 64);
+    }
+    made.all.remark("The same by adding; and at (4,4), where plain 3 and marked values of index 3 share an index");
+    made.after(5, &[&list(pair, &[32]), &list(pair, &[m(1, 3), m(2, 0)])]);
+    made.again();
+    made.after(5, &[&neither(pair), &list(pair, &[5])]);
+    made.again();
+    let n = |i, m| marked((4, 4), i, m);
+    made.after(4, &[&list((4, 4), &[3]), &list((4, 4), &[n(3, 0)])]);
+    assert_eq!(Fields::parse(&made.written()).expect("a state").sparse_size, 1);
+    made.again();
+    made.all.remark("Write, add, write again, and twice, on each path: waiting, all merged, inserted, merged, turned dense, lowered");
+    made.after(5, &[&list(pair, &[40])]);
+    for f in [
+        list(pair, &[30, 50]),
+        list(pair, &[5]),
+        neither(pair),
+        list(pair, &[2, 41]),
+        list(pair, &upto(60, 10)),
+        list(pair, &[7]),
+        Fields { value_type: 8, num_values: 0, ..list(pair, &[7, 8]) },
+        list(pair, &upto(500, 9)),
+        dense(pair, &registers(5, &[(9, 9)])),
+        list((4, 9), &[9]),
+        dense((6, 5), &registers(6, &[(63, 59)])),
+    ] {
+        made.add(0, &f);
+        assert_eq!(made.written(), made.written());
+    }
+    made.form(DENSE);
+    made.again();
+}
+
+fn writing_numbers(made: &mut Made) {
+    let pair = (4, 9);
+    let data = registers(4, &[(1, 5), (15, 61)]);
+    made.all.remark("Dense: the first state's sparse size is written; 0 after a list turned dense; p and s that were lowered, s of any sign");
+    for size in [0, 1, 42, -1, i32::MIN] {
+        made.after(4, &[&Fields { sparse_size: size, ..dense(pair, &data) }]);
+        made.add(0, &list(pair, &[3]));
+        made.again();
+    }
+    made.after(4, &[&list(pair, &[1, 2, 3]), &dense(pair, &data)]);
+    made.again();
+    made.after(4, &[&list(pair, &[1, 2, 3]), &list(pair, &[7]), &list(pair, &upto(100, 12))]);
+    made.form(DENSE);
+    made.again();
+    made.after(5, &[&Fields { sparse_size: 7, ..dense((5, 10), &registers(5, &[(1, 3), (30, 60)])) }, &dense((4, 12), &data)]);
+    made.again();
+    for s in [-1, 1, 30, i32::MIN, i32::MAX] {
+        made.after(4, &[&dense((4, s), &data)]);
+        made.again();
+    }
+    made.after(4, &[&dense(pair, &[0; 16]), &neither((5, 7))]);
+    made.again();
+    made.all.remark("Dense registers above 65-p, which a list with s = p can set: they are written, and a fresh roll-up refuses the state with 14");
+    made.after(4, &[&dense((4, 4), &[0; 16]), &list((4, 4), &[1])]);
+    assert_eq!(made.roll.registers[1], 64);
+    let bytes = made.written();
+    made.fresh(4);
+    made.bytes(14, &bytes);
+    made.all.remark("Value counts: 0, negative, wrapped. Value types: the first state's, though later ones narrow the mask");
+    for n in [0, -1, i64::MIN, i64::MAX, 127, 128] {
+        made.after(4, &[&Fields { num_values: n, ..list(pair, &[3]) }]);
+        made.written();
+        made.add(0, &list(pair, &[4]));
+        made.again();
+    }
+    for value_type in [0, 7, 8, 11] {
+        for f in [list(pair, &[3]), dense(pair, &data)] {
+            made.after(4, &[&Fields { value_type, ..f.clone() }]);
+            made.written();
+            made.add(0, &Fields { value_type: if value_type == 0 { 8 } else { 0 }, ..f });
+            made.again();
+        }
     }
 }
 
@@ -1198,6 +1591,7 @@ fn by_chance(made: &mut Made) {
             made.head(Head { kept: kept.len() as u64, bytes, waiting: waiting.len() as u64, ..head });
         }
         assert!(made.roll.fits());
+        made.near();
         for _ in 0..3 {
             made.some_call(pair);
         }
@@ -1205,7 +1599,7 @@ fn by_chance(made: &mut Made) {
 }
 
 fn main() {
-    let mut made = Made { all: Cases::default(), chance: Chance(0x9abe_68bf_8701_5eed), roll: Rollup::default(), differences: 0 };
+    let mut made = Made { all: Cases::default(), chance: Chance(0x9abe_68bf_8701_5eed), roll: Rollup::default(), differences: 0, turn: 0 };
     examples(&mut made);
     wire(&mut made);
     headers(&mut made);
@@ -1217,7 +1611,10 @@ fn main() {
     paths(&mut made);
     edges(&mut made);
     difference(&mut made);
+    writing_questions(&mut made);
+    writing_lists(&mut made);
+    writing_numbers(&mut made);
     by_chance(&mut made);
-    made.all.write(131072);
+    made.all.write(163840);
     println!("{:5} by the merge that the Difference asks for", made.differences);
 }

@@ -1,7 +1,7 @@
 -- Walking the chain of a batch: the walk so far is a run over the states so far, and what is left of the chain completes them. One law for the start,
 -- one for a turn, and one for each way that the walk ends.
 use Prim.Native.Nat.{ℕ, zero, suc, _+_, _-_, _*_, _^_, _<_, _≤_}
-use mathlib.Core.Path.{_≡_, refl, sym, ap, ap₂, _∙_, subst}
+use mathlib.Core.Path.{_≡_, refl, sym, ap, _∙_, subst}
 use mathlib.Core.List.{List, [], _∷_, _++_, append-assoc, append-nil}
 use mathlib.Core.Bool.{Bool, true, false, cond, _&&_}
 use native.Mathlib.Omega.{arith}
@@ -9,7 +9,7 @@ use lib.Dec.{ltb, leb, eqb}
 use lib.ListN.{length, getD, take, set, length-set, length-append}
 use lib.Seq.{take-suc-set, take-all, take-at, length-take-le}
 use borrow.Author.Tests.{leb-true, leb-false, ltb-true, lt-ltb, le-leb, lt-leb, eq-eqb, ne-eqb, eqb-true, eqb-false}
-use Rattle.lists.proofs.OrderLaws.{both-true, true-both}
+use Rattle.wire.proofs.BoolLaws.{both-true}
 use Rattle.rollup.specs.declared.accumulator.Accumulator.{Accumulator}
 use Rattle.rollup.specs.declared.adding.Added.{Added}
 use Rattle.rollup.specs.Accumulator.{Mem, fresh}
@@ -17,7 +17,6 @@ use Rattle.rollup.specs.Adding.{SameLengths, AddPost}
 use Rattle.rollup.specs.Calls.{Call, added, Run, begun, adding}
 use Rattle.batch.specs.declared.records.Ending.{Ending}
 use Rattle.batch.specs.declared.records.Ending.the-variants.{Whole, Refused, Full}
-use Rattle.batch.specs.declared.records.Rolled.{Rolled}
 use Rattle.batch.specs.Chain.{wordAt, nextAt, lengthAt, stateAt, isRecord, Chain, ends, onto, chainFrom, isBatch, chainOf}
 use Rattle.batch.specs.Batch.{addedAll, endingFor, statesFor, RolledPost}
 

@@ -1,16 +1,14 @@
 -- The closing numbers: the registers of a list, set in lent bytes and counted, and the count by the form.
 use Prim.Native.Nat.{ℕ, _<_, _≤_}
 use mathlib.Core.Path.{_≡_, refl, sym, ap, _∙_, subst}
-use mathlib.Core.List.{List, _++_, List·Memᴰ}
+use mathlib.Core.List.{List, _++_}
 use mathlib.Core.Bool.{Bool, true, cond}
 use native.Mathlib.Omega.{arith}
-use lib.Dec.{leb}
 use lib.ListN.{length, take, drop, length-take, length-append}
 use borrow.Author.Tests.{le-leb, lt-leb}
-use Rattle.lists.specs.Values.{Pair, register}
+use Rattle.lists.specs.Values.{Pair}
 use Rattle.lists.specs.Lists.{allValid}
 use Rattle.lists.specs.Registers.{registerBytes, registersOf, withRegisters, zeros, raisedBy, notZero}
-use Rattle.lists.proofs.RankLaws.{valid-inside}
 use Rattle.lists.proofs.RegisterLaws.{of-with}
 use Rattle.rollup.specs.declared.accumulator.Form.{Form}
 use Rattle.rollup.specs.declared.accumulator.Form.the-variants.{Unstarted, Sparse, Dense}
@@ -18,8 +16,7 @@ use Rattle.rollup.specs.declared.accumulator.Accumulator.{Accumulator}
 use Rattle.rollup.specs.Accumulator.{Mem, fits}
 use Rattle.rollup.specs.Writing.{writeOutcome}
 use Rattle.rollup.specs.Calls.{listRegisters, rollupRegisters}
-use Rattle.rollup.proofs.FitLaws.{FitSparse, FitDense, fit-sparse, fit-dense}
-use Rattle.rollup.proofs.KeepsLaws.{valid-append}
+use Rattle.rollup.proofs.FitLaws.{fit-sparse}
 use Rattle.rollup.proofs.AgreementLaws.{row-length, list-row, registers-list, registers-dense}
 use Rattle.batch.specs.declared.closing.Count.{Count}
 use Rattle.batch.specs.declared.closing.Count.the-variants.{Registers, Short}

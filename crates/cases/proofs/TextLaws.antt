@@ -1,15 +1,14 @@
 -- Laws of words and of numbers of 32 bits; and that the front that a count marks lies inside the memory that was lent.
 use Prim.Native.Nat.{ℕ, zero, suc, _+_, _-_, _^_, _<_, _≤_}
-use native.Mathlib.Numerals.{add-one}
 use native.Mathlib.Omega.{arith}
 use mathlib.Core.Path.{_≡_, refl, sym, ap, _∙_, subst}
-use mathlib.Core.List.{List, []}
+use mathlib.Core.List.{List}
 use mathlib.Core.Bool.{Bool, true, false, true≢false, cond}
 use mathlib.Core.Option.{Option, none, some}
 use lib.Dec.{ltb}
 use lib.ListN.{length, take, drop, drop-of-length-le}
 use lib.Seq.{length-take-le, drop-drop}
-use borrow.Author.Tests.{lt-ltb, le-ltb, ltb-false}
+use borrow.Author.Tests.{le-ltb, ltb-false}
 use Rattle.io.specs.Counts.{Counts}
 use Rattle.cases.specs.declared.input.Number.{Number}
 use Rattle.cases.specs.declared.input.Number.the-variants.{Value as NumberValue, Other as NumberOther}

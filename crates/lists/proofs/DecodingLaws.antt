@@ -13,6 +13,7 @@ use lib.Seq.{length-take-le, take-suc-set}
 use lib.Pow.{pow-pos}
 use lib.Dec.{ltb, leb, eqb}
 use borrow.Author.Tests.{lt-ltb, le-ltb, le-leb, ltb-true, ltb-false, leb-true}
+use Rattle.wire.proofs.BoolLaws.{both, both-true}
 use Rattle.wire.specs.Reading.{Read, got, refused, andThen}
 use Rattle.wire.specs.Varints.{varintOf, varintBytes, payload}
 use Rattle.wire.proofs.VarintLaws.{side, weighed, varint-none, varint-end, varint-last, varint-more, len-last, len-more, len-pos, there-and-back}
@@ -24,7 +25,7 @@ use Rattle.lists.specs.declared.decoding.Gap.the-variants.{Value, Cut, L
 use Rattle.lists.specs.declared.decoding.Step.{Step}
 use Rattle.lists.specs.declared.decoding.Step.the-variants.{Next, Refused as StepRefused}
 use Rattle.lists.specs.declared.decoding.Decoded.the-variants.{Done, Refused}
-use Rattle.lists.specs.Values.{mark, marked, valid, Pair}
+use Rattle.lists.specs.Values.{marked, valid, Pair}
 use Rattle.lists.specs.Sorting.{notBefore, ascends}
 use Rattle.lists.specs.Lists.{gapAnswer, gapOf, GapPost, gapRefusal, refusedHere, before, sumsOf, stepOf, stepRefusal, StepPost, allValid, decodeOf, Decodes, encodeFrom, encodeList, writtenFrom, written}
 use Rattle.lists.proofs.ValueLaws.{decided, mark-sparse, below-mark, plain-valid, valid-plain, marked-valid, valid-index, valid-low, valid-lt}
@@ -133,17 +134,6 @@ begun-long {s} {start} {at} {x} {b} g inside e h u =
 
 -- ---- tests
 
-and-left : (a b : Bool) → (a && b) ≡ true → a ≡ true
-and-left true b e = refl
-and-left false b e = e
-
-and-right : (a b : Bool) → (a && b) ≡ true → b ≡ true
-and-right true b e = e
-and-right false b e = absurd (true≢false (sym e))
-
-both : {a b : Bool} → a ≡ true → b ≡ true → (a && b) ≡ true
-both e f = ap₂ (λ (x y : Bool). x && y) e f
-
 or-left : (a b : Bool) → (a || b) ≡ false → a ≡ false
 or-left true b e = e
 or-left false b e = refl
@@ -224,10 +214,10 @@ module _ {p s : ℕ} {vs : List ℕ} {last plain : ℕ} (c : Checked p s vs last
   whole-valid e f = all-more p s vs v ∙ both e f
 
   front-valid : allValid p s (vs ++ (v ∷ [])) ≡ true → allValid p s vs ≡ true
-  front-valid e = and-left (allValid p s vs) (valid p s v) (sym (all-more p s vs v) ∙ e)
+  front-valid e = both-true (allValid p s vs) (valid p s v) (sym (all-more p s vs v) ∙ e) .0
 
   last-valid : allValid p s (vs ++ (v ∷ [])) ≡ true → valid p s v ≡ true
-  last-valid e = and-right (allValid p s vs) (valid p s v) (sym (all-more p s vs v) ∙ e)
+  last-valid e = both-true (allValid p s vs) (valid p s v) (sym (all-more p s vs v) ∙ e) .1
 
   more-plain : marked p s v ≡ false → Checked p s (vs ++ (v ∷ [])) v v
   more-plain m =
@@ -644,9 +634,9 @@ module _ {p s : ℕ} (pair : Pair p s) where
       let pos = len-pos 4 (v - last) in
       sums-step p s n last (varintBytes 5 (v - last) ++ encodeFrom v vs) (omega arith)
       ∙ ap (λ (r : Read ℕ). andThen r (sumsFrom p s n))
-      (step-back last v (encodeFrom v vs) (leb-true last v (and-left (leb last v) (notBefore v vs) a)) (and-left (valid p s v) (allValid p s vs) e))
+      (step-back last v (encodeFrom v vs) (leb-true last v (both-true (leb last v) (notBefore v vs) a .0)) (both-true (valid p s v) (allValid p s vs) e .0))
       ∙ ap (before v)
-      (sums-back vs n v (and-right (leb last v) (notBefore v vs) a) (and-right (valid p s v) (allValid p s vs) e) (omega arith))
+      (sums-back vs n v (both-true (leb last v) (notBefore v vs) a .1) (both-true (valid p s v) (allValid p s vs) e .1) (omega arith))
 
   pub decode-encode : (vs : List ℕ) → ascends vs ≡ true → allValid p s vs ≡ true → decodeOf p s (encodeList vs) ≡ got vs []
   unfolding ascends encodeList decodeOf

@@ -19,8 +19,8 @@ use Rattle.lists.specs.Lists.{allValid, slot, sameSlotFirst, lastOfSlots
 use Rattle.lists.specs.Order.{Ascending, Below, Least}
 use Rattle.lists.specs.Merging.{Splits}
 use Rattle.lists.proofs.ValueLaws.{decided, mark-64, below-mark, sparse-plain, sparse-marked}
-use Rattle.lists.proofs.OrderLaws.{both-true, ascending, ascending-take, ascending-drop, perm-sort}
-use Rattle.lists.proofs.MergeLaws.{valid-from-mark, slot-marked, slot-plain, slot-group, mark-groups, marked-group, last-same, last-apart}
+use Rattle.lists.proofs.OrderLaws.{ascending, ascending-take, ascending-drop, perm-sort}
+use Rattle.lists.proofs.MergeLaws.{valid-at, valid-from-mark, slot-marked, slot-plain, slot-group, mark-groups, marked-group, last-same, last-apart}
 use Rattle.lists.proofs.InsertLaws.{distinct-head, distinct-take, distinct-drop}
 
 module _ (p s : ℕ) where
@@ -169,12 +169,6 @@ module _ (p s : ℕ) where
         mul-lt-mul-of-pos-right lt (pow-pos (s - p)),
       )
 
-  pub valid-at : (l : List ℕ) (i : ℕ) → allValid p s l ≡ true → i < length l → valid p s (getD l i 0) ≡ true
-  unfolding allValid
-  valid-at [] i e h = absurd (let z : ⊥ = omega arith in z)
-  valid-at (x ∷ l) zero e h = both-true (valid p s x) (allValid p s l) e .0
-  valid-at (x ∷ l) (suc i) e h = valid-at l i (both-true (valid p s x) (allValid p s l) e .1) (omega arith)
-
   below-at : (n : ℕ) (l : List ℕ) (i : ℕ) → Below n l → i < length l → getD l i 0 < n
   below-at n [] i q h = absurd (let z : ⊥ = omega arith in z)
   below-at n (x ∷ l) zero q h = q .0
@@ -206,7 +200,7 @@ module _ (p s : ℕ) where
       let right = rises-of (λ x. (mark p s ≤ x) × (valid p s x ≡ true)) marked-step 0 (drop m l) (ascending-drop m 0 l a) (distinct-drop p s m l distinct)
       (λ i h. (
         least-at (mark p s) (drop m l) i (parts .high) h,
-        subst (λ (x : ℕ). valid p s x ≡ true) (sym (getD-drop m l i 0)) (valid-at l (m + i) allowed (omega (arith, length-drop m l))),
+        subst (λ (x : ℕ). valid p s x ≡ true) (sym (getD-drop m l i 0)) (valid-at p s l (m + i) allowed (omega (arith, length-drop m l))),
       )) in
       record {
         parts = parts;

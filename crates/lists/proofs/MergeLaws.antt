@@ -7,9 +7,10 @@ use mathlib.Core.Logic.{_⊎_, ⊎-elim}
 use native.Mathlib.Nat.{div-div-eq-div-mul}
 use native.Mathlib.Omega.{arith}
 use lib.Dec.{eqb}
-use lib.ListN.{length, length-append}
+use lib.ListN.{length, getD, length-append}
 use lib.Pow.{pow-add}
 use borrow.Author.Tests.{eq-eqb, ne-eqb, eqb-true, eqb-false}
+use Rattle.wire.proofs.BoolLaws.{both, both-true}
 use Rattle.wire.specs.Varints.{varintBytes}
 use Rattle.wire.proofs.VarintLaws.{side, len-last, len-more, len-pos, len-le}
 use Rattle.lists.proofs.ValueLaws.{decided, mark-sparse, below-mark, marked-ge, valid-plain}
@@ -17,7 +18,7 @@ use Rattle.lists.specs.Values.{markBit, mark, marked, valid}
 use Rattle.lists.specs.Sorting.{ascends, insert, sortOf}
 use Rattle.lists.specs.Order.{Ascending, lastOf}
 use Rattle.lists.specs.Lists.{allValid, encodeFrom, encodeList, writtenFrom, written, slot, sameSlotFirst, lastOfSlots, merged, distinctSlots}
-use Rattle.lists.proofs.OrderLaws.{insert-least, least-below, least-mem, ascending-least, order, both-true, true-both, ascending, ascends-of, ascending-lower, ascends-sort, put-first, put-later, sort-of-ascends, sort-perm, sort-swap, perm-sort, mem-perm, length-sort}
+use Rattle.lists.proofs.OrderLaws.{insert-least, least-below, least-mem, ascending-least, order, ascending, ascends-of, ascending-lower, ascends-sort, put-first, put-later, sort-of-ascends, sort-perm, sort-swap, perm-sort, mem-perm, length-sort}
 
 -- ---- marks
 
@@ -263,11 +264,18 @@ valid-mem p s v (x ∷ l) a m =
     let b = both-true (valid p s x) (allValid p s l) a in
     ⊎-elim (λ (e : v ≡ x). ap (valid p s) e ∙ b .0) (λ (i : List·Memᴰ v l). valid-mem p s v l (b .1) i) (List·Memᴰ·cases-cons m)
 
+-- Every value of a valid list is valid.
+pub valid-at : (p s : ℕ) (l : List ℕ) (i : ℕ) → allValid p s l ≡ true → i < length l → valid p s (getD l i 0) ≡ true
+unfolding allValid
+valid-at p s [] i e h = absurd (let z : ⊥ = omega arith in z)
+valid-at p s (v ∷ l) zero e h = both-true (valid p s v) (allValid p s l) e .0
+valid-at p s (v ∷ l) (suc i) e h = valid-at p s l i (both-true (valid p s v) (allValid p s l) e .1) (omega arith)
+
 pub mem-valid : (p s : ℕ) (l : List ℕ) → ((v : ℕ) → List·Memᴰ v l → valid p s v ≡ true) → allValid p s l ≡ true
 unfolding allValid
 mem-valid p s [] f = refl
 mem-valid p s (x ∷ l) f =
-    true-both (valid p s x) (allValid p s l) (f x (List·Memᴰ·head refl)) (mem-valid p s l (λ (v : ℕ) (m : List·Memᴰ v l). f v (List·Memᴰ·tail m)))
+    both (f x (List·Memᴰ·head refl)) (mem-valid p s l (λ (v : ℕ) (m : List·Memᴰ v l). f v (List·Memᴰ·tail m)))
 
 -- ---- the merge
 

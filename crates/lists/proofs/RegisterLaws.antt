@@ -1,7 +1,7 @@
 -- Registers in memory: how they lie, and the loops over them.
-use Prim.Native.Nat.{ℕ, zero, suc, _+_, _*_, _-_, _/_, _%_, _^_, _<_, _≤_, max, zero-le}
+use Prim.Native.Nat.{ℕ, suc, _+_, _*_, _-_, _/_, _%_, _^_, _<_, _≤_, max, zero-le}
 use mathlib.Core.Path.{_≡_, refl, sym, ap, ap₂, _∙_, subst}
-use mathlib.Core.Bool.{Bool, true, cond}
+use mathlib.Core.Bool.{Bool, cond}
 use mathlib.Core.List.{List, [], _∷_, _++_, append-assoc, append-nil}
 use mathlib.Core.Logic.{_⊎_, inl, inr, ⊎-elim}
 use native.Mathlib.Nat.{le-trans, le-of-eq, le-antisymm, max-le, le-max-left, le-max-right, max-zero, mod-lt, mul-mod-left, mul-le-mul-right, pow-suc, suc-mul}
@@ -14,12 +14,11 @@ use lib.Dec.{eqb}
 use lib.Pow.{pow-pos, pow-add, pow-mono, shl-shr, shr-le, shr-lt, shl-exact, split, high, low}
 use lib.Count.{leadingZeros, leading-length, leading-unique}
 use borrow.Author.Tests.{lt-ltb, le-ltb, eq-eqb, ne-eqb}
+use Rattle.wire.proofs.BoolLaws.{both}
 use Rattle.wire.proofs.VarintLaws.{side}
 use Rattle.lists.proofs.ValueLaws.{wider, lowered-zero, lowered-bits, lowered-register, register-zero}
 use Rattle.lists.proofs.RankLaws.{if-alike, if-other, none-or, zeros-at, max-assoc, larger-length, larger-at, largest-upper, lowered-length, lowered-at, lowered-upper, lowered-least, lowered-agree, raisedWith, lowerIndex, lowerRank}
-use Rattle.lists.proofs.OrderLaws.{both-true}
-use Rattle.lists.specs.Values.{valid, register, rank, IndexPost, RankPost, loweredRank, loweredRegister}
-use Rattle.lists.specs.Lists.{allValid}
+use Rattle.lists.specs.Values.{register, rank, IndexPost, RankPost, loweredRank, loweredRegister}
 use Rattle.lists.specs.Registers.{registerBytes, registersOf, withRegisters, zeros, raise, larger, loweredAt, lowered, notZero, largest, clearedFrom, loweredInPlace, offsetRank, HoldsFirst, ReadPost, StorePost, RaisePost, BothHold, ScanPre, ScanPost, LowerPre, BlockPre, BlockPost, DowngradePre}
 
 -- ---- how registers lie: these alone know that a register is a byte
@@ -660,13 +659,6 @@ module _ (p d : ℕ) (before : List ℕ) (pre : LowerPre p d before) where
       (loweredInPlace p d (registersOf p before))
 
 -- ---- setting the values of a list
-
--- Every value of a valid list is valid.
-pub valid-at : (p s : ℕ) (l : List ℕ) (i : ℕ) → allValid p s l ≡ true → i < length l → valid p s (getD l i 0) ≡ true
-unfolding allValid
-valid-at p s [] i e h = absurd (let z : ⊥ = omega arith in z)
-valid-at p s (v ∷ l) zero e h = both-true (valid p s v) (allValid p s l) e .0
-valid-at p s (v ∷ l) (suc i) e h = valid-at p s l i (both-true (valid p s v) (allValid p s l) e .1) (omega arith)
 
 -- The values passed are set, and those left raise the registers to those of the whole list.
 pub record Setting (q : ℕ) (ix rk : ℕ → ℕ) (list before after : List ℕ) (i : ℕ) : Type 0 where

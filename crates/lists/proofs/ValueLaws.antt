@@ -11,9 +11,9 @@ use lib.Pow.{pow-pos, pow-mono, pow-lt, pow-add, shl-lt, shl-shr, shr-lt, mod-po
 use lib.Bits.{bitAnd, and-high, and-mask}
 use lib.Count.{leadingZeros, leading-le, leading-top, leading-length, leading-unique}
 use borrow.Author.Tests.{ltb-true, leb-true, lt-ltb, le-ltb, le-leb, eq-eqb, ne-eqb}
+use Rattle.wire.proofs.BoolLaws.{both, both-true}
 use Rattle.wire.proofs.VarintLaws.{side}
 use Rattle.lists.specs.Values.{markBit, mark, marked, valid, sparseIndex, register, plainRank, rank, loweredRank, loweredRegister, Pair, NewPost, IndexPost, RankPost}
-use Rattle.lists.specs.declared.values.Sparse.{Sparse}
 
 -- ---- tests
 
@@ -23,17 +23,6 @@ decided false = inr refl
 
 opposite : (t : Bool) → t ≡ true → t ≡ false → ⊥
 opposite t e f = let z : _≡_ {A = ℕ} 0 1 = cc in omega arith
-
-both : (a b : Bool) → a ≡ true → b ≡ true → a && b ≡ true
-both a b e f = rw (e, f)
-
-both-left : (a b : Bool) → a && b ≡ true → a ≡ true
-both-left true b e = refl
-both-left false b e = e
-
-both-right : (a b : Bool) → a && b ≡ true → b ≡ true
-both-right true b e = e
-both-right false b e = absurd (opposite false e refl)
 
 -- ---- bits
 
@@ -128,13 +117,13 @@ module _ (p s v : ℕ) where
   valid-plain-lt e t = omega (arith, valid-plain e t, mark-sparse p s)
 
   pub marked-valid : marked p s v ≡ true → v < mark p s + 64 * 2 ^ p → v % 64 ≤ 65 - s → valid p s v ≡ true
-  marked-valid e h l = marked-is e ∙ both _ _ (lt-ltb v (mark p s + 64 * 2 ^ p) h) (le-leb (v % 64) (65 - s) l)
+  marked-valid e h l = marked-is e ∙ both (lt-ltb v (mark p s + 64 * 2 ^ p) h) (le-leb (v % 64) (65 - s) l)
 
   pub valid-index : marked p s v ≡ true → valid p s v ≡ true → v < mark p s + 64 * 2 ^ p
-  valid-index e t = ltb-true v (mark p s + 64 * 2 ^ p) (both-left _ (leb (v % 64) (65 - s)) (sym (marked-is e) ∙ t))
+  valid-index e t = ltb-true v (mark p s + 64 * 2 ^ p) (both-true _ (leb (v % 64) (65 - s)) (sym (marked-is e) ∙ t) .0)
 
   pub valid-low : marked p s v ≡ true → valid p s v ≡ true → v % 64 ≤ 65 - s
-  valid-low e t = leb-true (v % 64) (65 - s) (both-right (ltb v (mark p s + 64 * 2 ^ p)) _ (sym (marked-is e) ∙ t))
+  valid-low e t = leb-true (v % 64) (65 - s) (both-true (ltb v (mark p s + 64 * 2 ^ p)) _ (sym (marked-is e) ∙ t) .1)
 
   -- What the code asks of a marked value, one question after the other.
   pub marked-far : marked p s v ≡ true → mark p s + 64 * 2 ^ p ≤ v → valid p s v ≡ false

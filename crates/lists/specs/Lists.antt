@@ -4,7 +4,7 @@ use mathlib.Core.Path.{_≡_}
 use mathlib.Core.List.{List, [], _∷_, _++_}
 use mathlib.Core.Bool.{Bool, true, false, cond, _&&_, _||_}
 use Prim.Native.Nat.{ℕ, zero, suc, _+_, _-_, _/_, _*_, _%_, _^_, _<_, _≤_}
-use lib.Dec.{ltb, leb, eqb}
+use lib.Dec.{ltb, eqb}
 use lib.ListN.{length, take, drop}
 use Rattle.wire.specs.Reading.{Read, got, refused, andThen}
 use Rattle.wire.specs.Varints.{varintOf, varintBytes}
@@ -16,7 +16,7 @@ use Rattle.lists.specs.declared.decoding.Decoded.{Decoded}
 use Rattle.lists.specs.declared.decoding.Decoded.the-variants.{Done, Refused}
 use Rattle.lists.specs.declared.merging.Merged.{Merged}
 use Rattle.lists.specs.declared.values.Sparse.{Sparse}
-use Rattle.lists.specs.Values.{mark, marked, markedRank, valid, sparseIndex, SparseFits}
+use Rattle.lists.specs.Values.{marked, markedRank, valid, sparseIndex, SparseFits}
 use Rattle.lists.specs.Sorting.{ascends, sortOf}
 
 -- ---- reading

@@ -1,7 +1,7 @@
 -- Registers: of a list, the larger of two, lowered (document 01, module 3 and "Lists of calls").
 use mathlib.Core.Path.{_≡_}
 use mathlib.Core.List.{List, [], _∷_, _++_}
-use mathlib.Core.Bool.{Bool, true, cond}
+use mathlib.Core.Bool.{true, cond}
 use Prim.Native.Nat.{ℕ, zero, suc, _+_, _-_, _/_, _*_, _^_, _<_, _≤_, max}
 use lib.Dec.{eqb, ltb}
 use lib.Count.{leadingZeros}

@@ -1,7 +1,6 @@
 -- Values of a sparse list and their ranks, from Heule, Nunkesser and Hall 2013, section 5.3 (the sparse representation and the encoding of
 -- hash values), as document 01, module 3, has them. p is the normal precision, s the sparse precision.
-use mathlib.Core.List.{List, [], _∷_}
-use mathlib.Core.Bool.{Bool, true, cond, _&&_}
+use mathlib.Core.Bool.{Bool, cond, _&&_}
 use Prim.Native.Nat.{ℕ, _+_, _-_, _*_, _/_, _%_, _^_, _≤_, _<_, max}
 use mathlib.Core.Path.{_≡_}
 use lib.Dec.{ltb, leb, eqb}

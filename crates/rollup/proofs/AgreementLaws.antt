@@ -5,7 +5,7 @@ use Prim.Native.Nat.{ℕ, _+_, _-_, _^_, _<_, _≤_, max, min}
 use mathlib.Core.Path.{_≡_, refl, sym, ap, ap₂, _∙_, subst}
 use mathlib.Core.Bool.{Bool, true, false, cond, not}
 use mathlib.Core.Logic.{⊎-elim}
-use mathlib.Core.List.{List, [], _∷_, _++_, append-assoc, append-nil, List·Memᴰ}
+use mathlib.Core.List.{List, [], _++_, append-assoc, append-nil, List·Memᴰ}
 use native.Mathlib.Nat.{min-le-right, min-eq-left, le-of-eq}
 use native.Mathlib.Omega.{arith}
 use lib.Dec.{ltb, eqb}
@@ -38,7 +38,7 @@ list-same : (p s : ℕ) (a b : List ℕ) → ((j : ℕ) → rankAt p s j a ≡ r
 unfolding listRegisters
 list-same p s a b e = row-same p s a b e
 
-list-merged : (p s : ℕ) (a b : List ℕ) → listRegisters p s (merged p s a b) ≡ listRegisters p s (a ++ b)
+pub list-merged : (p s : ℕ) (a b : List ℕ) → listRegisters p s (merged p s a b) ≡ listRegisters p s (a ++ b)
 list-merged p s a b = list-same p s (merged p s a b) (a ++ b) (λ (j : ℕ). rank-merged p s j a b)
 
 abbrev row : ℕ → ℕ → List ℕ → List ℕ

@@ -7,7 +7,8 @@ use native.Mathlib.Omega.{arith}
 use lib.Dec.{ltb, leb, eqb}
 use lib.ListN.{length, take}
 use lib.Pow.{pow-mono}
-use borrow.Author.Tests.{leb-true, le-leb, ltb-true, lt-ltb, eqb-true, eq-eqb, ne-eqb, not-true, not-false, lt-leb}
+use borrow.Author.Tests.{leb-true, le-leb, ltb-true, lt-ltb, eqb-true, eq-eqb, ne-eqb, lt-leb}
+use Rattle.wire.proofs.BoolLaws.{both, both-true}
 use Rattle.lists.proofs.RegisterLaws.{count-is}
 use Rattle.lists.specs.declared.values.Sparse.{Sparse as Encoding}
 use Rattle.lists.specs.Values.{Pair, NewPost}
@@ -28,17 +29,6 @@ yes b e = ap (λ (x : Bool). x && b) e
 pub nay : {a : Bool} (b : Bool) → a ≡ false → a && b ≡ false
 nay b e = ap (λ (x : Bool). x && b) e
 
-pub both-true : {a b : Bool} → a ≡ true → b ≡ true → a && b ≡ true
-both-true {a} {b} e f = yes b e ∙ f
-
-pub left : (a b : Bool) → a && b ≡ true → a ≡ true
-left true b e = refl
-left false b e = e
-
-pub right : (a b : Bool) → a && b ≡ true → b ≡ true
-right true b e = e
-right false b e = let z : false ≡ true = e in cc
-
 pub never : (b : Bool) → b ≡ true → b ≡ false → ⊥
 never b e f = let z : _≡_ {A = ℕ} 0 1 = cc in omega arith
 
@@ -50,13 +40,6 @@ denied false f = refl
 pub alike : (a b : Bool) → (a ≡ true → b ≡ true) → (b ≡ true → a ≡ true) → a ≡ b
 alike true b f g = sym (f refl)
 alike false b f g = sym (denied b (λ (e : b ≡ true). never false (g e) refl))
-
--- What a call told, where its answer is tested by `if !..`.
-pub said-yes : {r b : Bool} → r ≡ b → not r ≡ false → b ≡ true
-said-yes {r} e f = sym e ∙ not-false r f
-
-pub said-no : {r b : Bool} → r ≡ b → not r ≡ true → b ≡ false
-said-no {r} e f = sym e ∙ not-true r f
 
 -- ---- what fits, by the form
 
@@ -93,12 +76,12 @@ pub record FitDense (a : Accumulator) (m : Mem) : Type 0 where
 no-lists : (a : Accumulator) → noLists a ≡ true → NoLists a
 no-lists a e =
     record {
-      no-kept = eqb-true _ _ (left (eqb (a .«sparse_len») 0) (eqb (a .«pending_len») 0) e);
-      no-waiting = eqb-true _ _ (right (eqb (a .«sparse_len») 0) (eqb (a .«pending_len») 0) e);
+      no-kept = eqb-true _ _ (both-true (eqb (a .«sparse_len») 0) (eqb (a .«pending_len») 0) e .0);
+      no-waiting = eqb-true _ _ (both-true (eqb (a .«sparse_len») 0) (eqb (a .«pending_len») 0) e .1);
     }
 
 no-lists-back : (a : Accumulator) → NoLists a → noLists a ≡ true
-no-lists-back a x = both-true (eq-eqb _ _ (x .no-kept)) (eq-eqb _ _ (x .no-waiting))
+no-lists-back a x = both (eq-eqb _ _ (x .no-kept)) (eq-eqb _ _ (x .no-waiting))
 
 -- "With values waiting": the bound holds where the count is not 0.
 bounded : (k x y : ℕ) → eqb k 0 || ltb x y ≡ true → 0 < k → x < y
@@ -144,7 +127,7 @@ record Parts (a : Accumulator) (m : Mem) : Type 0 where
   wait : waitingFits a ≡ true
 
 pair-of : (x y z w : ℕ) → leb x y && leb z w ≡ true → (x ≤ y) × (z ≤ w)
-pair-of x y z w e = (leb-true x y (left (leb x y) (leb z w) e), leb-true z w (right (leb x y) (leb z w) e))
+pair-of x y z w e = (leb-true x y (both-true (leb x y) (leb z w) e .0), leb-true z w (both-true (leb x y) (leb z w) e .1))
 
 module _ (a : Accumulator) (m : Mem) where
   pub fit-none : fits a m ≡ true → a .form ≡ Unstarted → NoLists a
@@ -163,30 +146,30 @@ module _ (a : Accumulator) (m : Mem) where
       let c₅ = leb (a .«pending_len») 2048 in
       let c₆ = bytesIn a m in
       let c₇ = waitingFits a in
-      let e₆ = left (c₁ && c₂ && c₃ && c₄ && c₅ && c₆) c₇ e₇ in
-      let e₅ = left (c₁ && c₂ && c₃ && c₄ && c₅) c₆ e₆ in
-      let e₄ = left (c₁ && c₂ && c₃ && c₄) c₅ e₅ in
-      let e₃ = left (c₁ && c₂ && c₃) c₄ e₄ in
-      let e₂ = left (c₁ && c₂) c₃ e₃ in
+      let e₆ = both-true (c₁ && c₂ && c₃ && c₄ && c₅ && c₆) c₇ e₇ .0 in
+      let e₅ = both-true (c₁ && c₂ && c₃ && c₄ && c₅) c₆ e₆ .0 in
+      let e₄ = both-true (c₁ && c₂ && c₃ && c₄) c₅ e₅ .0 in
+      let e₃ = both-true (c₁ && c₂ && c₃) c₄ e₄ .0 in
+      let e₂ = both-true (c₁ && c₂) c₃ e₃ .0 in
       record {
-        counts = left c₁ c₂ e₂;
-        range = right c₁ c₂ e₂;
-        valid = right (c₁ && c₂) c₃ e₃;
-        order = right (c₁ && c₂ && c₃) c₄ e₄;
-        few = right (c₁ && c₂ && c₃ && c₄) c₅ e₅;
-        bytes = right (c₁ && c₂ && c₃ && c₄ && c₅) c₆ e₆;
-        wait = right (c₁ && c₂ && c₃ && c₄ && c₅ && c₆) c₇ e₇;
+        counts = both-true c₁ c₂ e₂ .0;
+        range = both-true c₁ c₂ e₂ .1;
+        valid = both-true (c₁ && c₂) c₃ e₃ .1;
+        order = both-true (c₁ && c₂ && c₃) c₄ e₄ .1;
+        few = both-true (c₁ && c₂ && c₃ && c₄) c₅ e₅ .1;
+        bytes = both-true (c₁ && c₂ && c₃ && c₄ && c₅) c₆ e₆ .1;
+        wait = both-true (c₁ && c₂ && c₃ && c₄ && c₅ && c₆) c₇ e₇ .1;
       }
 
   parts-back : Parts a m → sparseFits a m ≡ true
   unfolding sparseFits
   parts-back x =
-      both-true (both-true (both-true (both-true (both-true (both-true (x .counts) (x .range)) (x .valid)) (x .order)) (x .few)) (x .bytes)) (x .wait)
+      both (both (both (both (both (both (x .counts) (x .range)) (x .valid)) (x .order)) (x .few)) (x .bytes)) (x .wait)
 
   sparse-facts : normalRange (a .precision) && sparseFits a m ≡ true → FitSparse a m
   sparse-facts g =
-      let range = pair-of 4 (a .precision) (a .precision) 24 (left (normalRange (a .precision)) (sparseFits a m) g) in
-      let x = parts (right (normalRange (a .precision)) (sparseFits a m) g) in
+      let range = pair-of 4 (a .precision) (a .precision) 24 (both-true (normalRange (a .precision)) (sparseFits a m) g .0) in
+      let x = parts (both-true (normalRange (a .precision)) (sparseFits a m) g .1) in
       let counts = pair-of (a .«sparse_len») (length (m .sparse)) (a .«pending_len») (length (m .pending)) (x .counts) in
       let above = pair-of (a .precision) (a .«sparse_precision») (a .«sparse_precision») 25 (x .range) in
       let bytes = pair-of (written (keptOf a m)) (a .«sparse_bytes») (a .«sparse_bytes») 2147483647 (x .bytes) in
@@ -194,8 +177,8 @@ module _ (a : Accumulator) (m : Mem) where
         pair = record { low = range .0; high = range .1; above = above .0; top = above .1 };
         kept-in = counts .0;
         waiting-in = counts .1;
-        kept-valid = left (allFit a (keptOf a m)) (allFit a (waitingOf a m)) (x .valid);
-        waiting-valid = right (allFit a (keptOf a m)) (allFit a (waitingOf a m)) (x .valid);
+        kept-valid = both-true (allFit a (keptOf a m)) (allFit a (waitingOf a m)) (x .valid) .0;
+        waiting-valid = both-true (allFit a (keptOf a m)) (allFit a (waitingOf a m)) (x .valid) .1;
         order = x .order;
         few = leb-true (a .«pending_len») 2048 (x .few);
         bytes-low = bytes .0;
@@ -205,15 +188,15 @@ module _ (a : Accumulator) (m : Mem) where
 
   sparse-facts-back : FitSparse a m → normalRange (a .precision) && sparseFits a m ≡ true
   sparse-facts-back x =
-      both-true (both-true (le-leb _ _ (x .pair .low)) (le-leb _ _ (x .pair .high)))
+      both (both (le-leb _ _ (x .pair .low)) (le-leb _ _ (x .pair .high)))
       (parts-back
       (record {
-        counts = both-true (le-leb _ _ (x .kept-in)) (le-leb _ _ (x .waiting-in));
-        range = both-true (le-leb _ _ (x .pair .above)) (le-leb _ _ (x .pair .top));
-        valid = both-true (x .kept-valid) (x .waiting-valid);
+        counts = both (le-leb _ _ (x .kept-in)) (le-leb _ _ (x .waiting-in));
+        range = both (le-leb _ _ (x .pair .above)) (le-leb _ _ (x .pair .top));
+        valid = both (x .kept-valid) (x .waiting-valid);
         order = x .order;
         few = le-leb _ _ (x .few);
-        bytes = both-true (le-leb _ _ (x .bytes-low)) (le-leb _ _ (x .bytes-high));
+        bytes = both (le-leb _ _ (x .bytes-low)) (le-leb _ _ (x .bytes-high));
         wait = bounded-back (a .«pending_len») (a .«sparse_bytes» + 5 * a .«pending_len») (limit (a .precision)) (x .wait);
       }))
 
@@ -227,21 +210,21 @@ module _ (a : Accumulator) (m : Mem) where
   unfolding denseFits
   dense-parts e =
       let n = noLists a in
-      let e₂ = left (n && roomIn a m) (smallIn a m) e in
-      (left n (roomIn a m) e₂, right n (roomIn a m) e₂, right (n && roomIn a m) (smallIn a m) e)
+      let e₂ = both-true (n && roomIn a m) (smallIn a m) e .0 in
+      (both-true n (roomIn a m) e₂ .0, both-true n (roomIn a m) e₂ .1, both-true (n && roomIn a m) (smallIn a m) e .1)
 
   pub fit-dense : fits a m ≡ true → a .form ≡ Dense → FitDense a m
   fit-dense e f =
       let c₁ = normalRange (a .precision) in
       let c₂ = not (eqb (a .«sparse_precision») 0) in
       let g : c₁ && c₂ && denseFits a m ≡ true = sym (fits-form a m Dense f) ∙ e in
-      let h = left (c₁ && c₂) (denseFits a m) g in
-      let range = pair-of 4 (a .precision) (a .precision) 24 (left c₁ c₂ h) in
-      let x = dense-parts (right (c₁ && c₂) (denseFits a m) g) in
+      let h = both-true (c₁ && c₂) (denseFits a m) g .0 in
+      let range = pair-of 4 (a .precision) (a .precision) 24 (both-true c₁ c₂ h .0) in
+      let x = dense-parts (both-true (c₁ && c₂) (denseFits a m) g .1) in
       record {
         low = range .0;
         high = range .1;
-        sparse = not-zero (a .«sparse_precision») (right c₁ c₂ h);
+        sparse = not-zero (a .«sparse_precision») (both-true c₁ c₂ h .1);
         none = no-lists a (x .0);
         room = leb-true (registerBytes (a .precision)) (length (m .registers)) (x .1);
         small = leb-true (largest (registersOf (a .precision) (m .registers))) (88 - a .precision) (x .2);
@@ -249,12 +232,12 @@ module _ (a : Accumulator) (m : Mem) where
 
   dense-back : FitDense a m → denseFits a m ≡ true
   unfolding denseFits
-  dense-back x = both-true (both-true (no-lists-back a (x .none)) (le-leb _ _ (x .room))) (le-leb _ _ (x .small))
+  dense-back x = both (both (no-lists-back a (x .none)) (le-leb _ _ (x .room))) (le-leb _ _ (x .small))
 
   pub fit-dense-back : a .form ≡ Dense → FitDense a m → fits a m ≡ true
   fit-dense-back f x =
       fits-form a m Dense f
-      ∙ both-true (both-true (both-true (le-leb _ _ (x .low)) (le-leb _ _ (x .high))) (not-zero-back (a .«sparse_precision») (x .sparse)))
+      ∙ both (both (both (le-leb _ _ (x .low)) (le-leb _ _ (x .high))) (not-zero-back (a .«sparse_precision») (x .sparse)))
       (dense-back x)
 
 -- ---- in the order in which the code asks
@@ -278,12 +261,12 @@ range-of p e = pair-of 4 p p 24 e
 
 pub ranges-pair : (p s : ℕ) → rangesFit p s ≡ true → Pair p s
 ranges-pair p s e =
-    let a = pair-of 4 p p 24 (left (normalRange p) (sparseRange p s) e) in
-    let b = pair-of p s s 25 (right (normalRange p) (sparseRange p s) e) in
+    let a = pair-of 4 p p 24 (both-true (normalRange p) (sparseRange p s) e .0) in
+    let b = pair-of p s s 25 (both-true (normalRange p) (sparseRange p s) e .1) in
     record { low = a .0; high = a .1; above = b .0; top = b .1 }
 
 pair-ranges : (p s : ℕ) → Pair p s → rangesFit p s ≡ true
-pair-ranges p s x = both-true (both-true (le-leb _ _ (x .low)) (le-leb _ _ (x .high))) (both-true (le-leb _ _ (x .above)) (le-leb _ _ (x .top)))
+pair-ranges p s x = both (both (le-leb _ _ (x .low)) (le-leb _ _ (x .high))) (both (le-leb _ _ (x .above)) (le-leb _ _ (x .top)))
 
 pub wait-none : (a : Accumulator) → a .«pending_len» ≡ 0 → waitingFits a ≡ true
 wait-none a e =
@@ -316,18 +299,18 @@ module _ (a : Accumulator) (cells waitingCells : ℕ) where
 
   counts-wait : countsFit a cells waitingCells ≡ true → (c₁ && c₂ && c₃ && c₄ ≡ true) × (waitingFits a ≡ true)
   unfolding countsFit
-  counts-wait e = (left (c₁ && c₂ && c₃ && c₄) (waitingFits a) e, right (c₁ && c₂ && c₃ && c₄) (waitingFits a) e)
+  counts-wait e = (both-true (c₁ && c₂ && c₃ && c₄) (waitingFits a) e .0, both-true (c₁ && c₂ && c₃ && c₄) (waitingFits a) e .1)
 
   pub counts-of : countsFit a cells waitingCells ≡ true → Counts a cells waitingCells
   counts-of e =
       let e₄ = counts-wait e .0 in
-      let e₃ = left (c₁ && c₂ && c₃) c₄ e₄ in
-      let e₂ = left (c₁ && c₂) c₃ e₃ in
+      let e₃ = both-true (c₁ && c₂ && c₃) c₄ e₄ .0 in
+      let e₂ = both-true (c₁ && c₂) c₃ e₃ .0 in
       record {
-        kept-in = leb-true _ _ (left c₁ c₂ e₂);
-        waiting-in = leb-true _ _ (right c₁ c₂ e₂);
-        few = leb-true _ _ (right (c₁ && c₂) c₃ e₃);
-        bytes-high = leb-true _ _ (right (c₁ && c₂ && c₃) c₄ e₄);
+        kept-in = leb-true _ _ (both-true c₁ c₂ e₂ .0);
+        waiting-in = leb-true _ _ (both-true c₁ c₂ e₂ .1);
+        few = leb-true _ _ (both-true (c₁ && c₂) c₃ e₃ .1);
+        bytes-high = leb-true _ _ (both-true (c₁ && c₂ && c₃) c₄ e₄ .1);
       }
 
   pub counts-no : (Counts a cells waitingCells → ⊥) → false ≡ countsFit a cells waitingCells
@@ -338,7 +321,7 @@ module _ (a : Accumulator) (cells waitingCells : ℕ) where
   counts-yes x =
       sym
       (yes (waitingFits a)
-      (both-true (both-true (both-true (le-leb _ _ (x .kept-in)) (le-leb _ _ (x .waiting-in))) (le-leb _ _ (x .few))) (le-leb _ _ (x .bytes-high))))
+      (both (both (both (le-leb _ _ (x .kept-in)) (le-leb _ _ (x .waiting-in))) (le-leb _ _ (x .few))) (le-leb _ _ (x .bytes-high))))
 
 -- What is told of values by an encoding is told of them by its precisions.
 pub valid-by : {p s : ℕ} {enc : Encoding} {r : Bool} (l : List ℕ) → NewPost p s enc
@@ -354,18 +337,18 @@ module _ (a : Accumulator) (kept waiting : List ℕ) where
   lists-bytes : listsFit a kept waiting ≡ true → (allFit a kept && allFit a waiting && ascends kept ≡ true) × (leb (written kept) (a .«sparse_bytes») ≡ true)
   unfolding listsFit
   lists-bytes e = (
-    left (allFit a kept && allFit a waiting && ascends kept) (leb (written kept) (a .«sparse_bytes»)) e,
-    right (allFit a kept && allFit a waiting && ascends kept) (leb (written kept) (a .«sparse_bytes»)) e,
+    both-true (allFit a kept && allFit a waiting && ascends kept) (leb (written kept) (a .«sparse_bytes»)) e .0,
+    both-true (allFit a kept && allFit a waiting && ascends kept) (leb (written kept) (a .«sparse_bytes»)) e .1,
   )
 
   pub lists-of : listsFit a kept waiting ≡ true → Lists
   lists-of e =
       let e₃ = lists-bytes e .0 in
-      let e₂ = left (allFit a kept && allFit a waiting) (ascends kept) e₃ in
+      let e₂ = both-true (allFit a kept && allFit a waiting) (ascends kept) e₃ .0 in
       record {
-        kept-valid = left (allFit a kept) (allFit a waiting) e₂;
-        waiting-valid = right (allFit a kept) (allFit a waiting) e₂;
-        order = right (allFit a kept && allFit a waiting) (ascends kept) e₃;
+        kept-valid = both-true (allFit a kept) (allFit a waiting) e₂ .0;
+        waiting-valid = both-true (allFit a kept) (allFit a waiting) e₂ .1;
+        order = both-true (allFit a kept && allFit a waiting) (ascends kept) e₃ .1;
       }
 
   pub lists-no : (Lists → ⊥) → false ≡ listsFit a kept waiting
@@ -373,7 +356,7 @@ module _ (a : Accumulator) (kept waiting : List ℕ) where
 
   pub lists-yes : Lists → leb (written kept) (a .«sparse_bytes») ≡ listsFit a kept waiting
   unfolding listsFit
-  lists-yes x = sym (yes (leb (written kept) (a .«sparse_bytes»)) (both-true (both-true (x .kept-valid) (x .waiting-valid)) (x .order)))
+  lists-yes x = sym (yes (leb (written kept) (a .«sparse_bytes»)) (both (both (x .kept-valid) (x .waiting-valid)) (x .order)))
 
 module _ (a : Accumulator) (sparse pending : List ℕ) where
   abbrev asked : Bool
@@ -387,13 +370,13 @@ module _ (a : Accumulator) (sparse pending : List ℕ) where
       let r = rangesFit (a .precision) (a .«sparse_precision») in
       let c = countsFit a (length sparse) (length pending) in
       let l = listsFit a (take (a .«sparse_len») sparse) (take (a .«pending_len») pending) in
-      let f = left (r && c) l e in
-      let g = right r c f in
+      let f = both-true (r && c) l e .0 in
+      let g = both-true r c f .1 in
       let x = counts-of a (length sparse) (length pending) g in
-      let k = right (r && c) l e in
+      let k = both-true (r && c) l e .1 in
       let y = lists-of a (take (a .«sparse_len») sparse) (take (a .«pending_len») pending) k in
       record {
-        pair = ranges-pair (a .precision) (a .«sparse_precision») (left r c f);
+        pair = ranges-pair (a .precision) (a .«sparse_precision») (both-true r c f .0);
         kept-in = x .kept-in;
         waiting-in = x .waiting-in;
         kept-valid = y .kept-valid;
@@ -409,8 +392,8 @@ module _ (a : Accumulator) (sparse pending : List ℕ) where
 
   asked-back : FitSparse a (mem [] sparse pending) → asked ≡ true
   asked-back x =
-      both-true
-      (both-true (pair-ranges (a .precision) (a .«sparse_precision») (x .pair))
+      both
+      (both (pair-ranges (a .precision) (a .«sparse_precision») (x .pair))
       (sym
       (counts-yes a (length sparse) (length pending)
       (record { kept-in = x .kept-in; waiting-in = x .waiting-in; few = x .few; bytes-high = x .bytes-high }))
@@ -442,7 +425,7 @@ module _ (a : Accumulator) (sparse pending : List ℕ) where
   pub asked-lists : rangesFit (a .precision) (a .«sparse_precision») ≡ true → countsFit a (length sparse) (length pending) ≡ true
       → listsFit a (take (a .«sparse_len») sparse) (take (a .«pending_len») pending)
       ≡ normalRange (a .precision) && sparseFits a (mem [] sparse pending)
-  asked-lists e f = sym (sparse-asked ∙ yes (listsFit a (take (a .«sparse_len») sparse) (take (a .«pending_len») pending)) (both-true e f))
+  asked-lists e f = sym (sparse-asked ∙ yes (listsFit a (take (a .«sparse_len») sparse) (take (a .«pending_len») pending)) (both e f))
 
 module _ (a : Accumulator) (bytes : List ℕ) where
   abbrev denseAsked : Bool
@@ -465,9 +448,9 @@ module _ (a : Accumulator) (bytes : List ℕ) where
       (nay (denseFits a (mem bytes [] []))
       (yes (not (eqb (a .«sparse_precision») 0)) e ∙ ap not (eq-eqb (a .«sparse_precision») 0 f)))
 
-  -- What is left where both precisions fit.
+  -- What is both-true where both precisions .0 fit.
   ranged : normalRange (a .precision) ≡ true → (a .«sparse_precision» ≡ 0 → ⊥) → denseAsked ≡ denseFits a (mem bytes [] [])
-  ranged e f = yes (denseFits a (mem bytes [] [])) (both-true e (ap not (ne-eqb (a .«sparse_precision») 0 f)))
+  ranged e f = yes (denseFits a (mem bytes [] [])) (both e (ap not (ne-eqb (a .«sparse_precision») 0 f)))
 
   pub asked-none : normalRange (a .precision) ≡ true → (a .«sparse_precision» ≡ 0 → ⊥) → noLists a ≡ false → false ≡ denseAsked
   asked-none e f g = sym (ranged e f ∙ dense-lists g)

@@ -10,6 +10,7 @@ use lib.Dec.{leb, eqb}
 use lib.ListN.{length, take, drop, length-take, length-drop}
 use lib.Bits.{bitAnd}
 use borrow.Author.Tests.{leb-true, le-leb, lt-leb, eqb-true, eq-eqb, ne-eqb, not-true, not-false}
+use Rattle.wire.proofs.BoolLaws.{both-true, said-yes, said-no}
 use Rattle.wire.specs.Reading.{Read, got, refused, andThen}
 use Rattle.wire.proofs.VarintLaws.{side}
 use Rattle.wire.specs.State.{HllState, State, bytesOrNone, stateOf, readState, whenPresent, HllInside, parsedMeans, ParsePost}
@@ -37,14 +38,6 @@ use Rattle.rollup.specs.Adding.{commonMask, isStarted, masksMeet, hasFie
 use Rattle.rollup.specs.Judging.{kindAsked, needsPair, structureAsked, judgedMeans, JudgedInside, JudgePost, parsedRefusal, RoomPre, ListedPre}
 
 -- ---- Bools
-
-and-left : (a b : Bool) → a && b ≡ true → a ≡ true
-and-left true b e = refl
-and-left false b e = e
-
-and-right : (a b : Bool) → a && b ≡ true → b ≡ true
-and-right true b e = e
-and-right false b e = let z : false ≡ true = e in cc
 
 or-second : (a b : Bool) → a || b ≡ true → a ≡ false → b ≡ true
 or-second true b e f = let z : true ≡ false = f in cc
@@ -169,11 +162,11 @@ judged-facts a st e =
     let s = st .hll .sparsePrecision in
     let x = passed a st e in
     let y = header-yes st (eqb-true _ _ (x .header)) in
-    let z = and-left (not (eqb s 0) && not (not (isEmpty (dataOf st)) && hasField (st .hll .sparseData))) (samePair (a .form) a st) (x .carry) in
-    let pos = above-zero s (and-left (not (eqb s 0)) (not (not (isEmpty (dataOf st)) && hasField (st .hll .sparseData))) z) in
-    let pairs = and-right (not (eqb s 0) && not (not (isEmpty (dataOf st)) && hasField (st .hll .sparseData))) (samePair (a .form) a st) (x .carry) in
-    let low = leb-true 4 p (and-left (leb 4 p) (leb p 24) (y .normal)) in
-    let high = leb-true p 24 (and-right (leb 4 p) (leb p 24) (y .normal)) in
+    let z = both-true (not (eqb s 0) && not (not (isEmpty (dataOf st)) && hasField (st .hll .sparseData))) (samePair (a .form) a st) (x .carry) .0 in
+    let pos = above-zero s (both-true (not (eqb s 0)) (not (not (isEmpty (dataOf st)) && hasField (st .hll .sparseData))) z .0) in
+    let pairs = both-true (not (eqb s 0) && not (not (isEmpty (dataOf st)) && hasField (st .hll .sparseData))) (samePair (a .form) a st) (x .carry) .1 in
+    let low = leb-true 4 p (both-true (leb 4 p) (leb p 24) (y .normal) .0) in
+    let high = leb-true p 24 (both-true (leb 4 p) (leb p 24) (y .normal) .1) in
     record {
       kind = eqb-true _ _ (y .kind);
       version = eqb-true _ _ (y .version);
@@ -185,21 +178,21 @@ judged-facts a st e =
           eqb-true _ _ (or-second (isEmpty (dataOf st)) (eqb (length (dataOf st)) (2 ^ p)) (y .size) (not-empty (dataOf st) h));
       registers = leb-true _ _ (y .registers);
       alone = data-alone (dataOf st) (st .hll .sparseData)
-          (and-right (not (eqb s 0)) (not (not (isEmpty (dataOf st)) && hasField (st .hll .sparseData))) z);
+          (both-true (not (eqb s 0)) (not (not (isEmpty (dataOf st)) && hasField (st .hll .sparseData))) z .1);
       pair = λ (h : length (dataOf st) ≡ 0).
           let r = in-range (listOf st) (dataOf st) s (sparseRange p s) (y .sparse) h pos in
           record {
             low = low;
             high = high;
-            above = leb-true p s (and-left (leb p s) (leb s 25) r);
-            top = leb-true s 25 (and-right (leb p s) (leb s 25) r);
+            above = leb-true p s (both-true (leb p s) (leb s 25) r .0);
+            top = leb-true s 25 (both-true (leb p s) (leb s 25) r .1);
           };
       masks = λ (h : isStarted (a .form) ≡ true).
           above-zero (commonMask a st) (or-second (not (isStarted (a .form))) (not (eqb (commonMask a st) 0)) (x .meet) (ap not h));
       same-normal = λ (h : a .form ≡ Sparse).
-          sym (eqb-true _ _ (and-left (eqb (a .precision) p) (eqb (a .«sparse_precision») s) (same-pair (a .form) a st pairs h)));
+          sym (eqb-true _ _ (both-true (eqb (a .precision) p) (eqb (a .«sparse_precision») s) (same-pair (a .form) a st pairs h) .0));
       same-sparse = λ (h : a .form ≡ Sparse).
-          sym (eqb-true _ _ (and-right (eqb (a .precision) p) (eqb (a .«sparse_precision») s) (same-pair (a .form) a st pairs h)));
+          sym (eqb-true _ _ (both-true (eqb (a .precision) p) (eqb (a .«sparse_precision») s) (same-pair (a .form) a st pairs h) .1));
     }
 
 -- A list that is not empty: no data beside it, and a pair.
@@ -217,12 +210,6 @@ module _ (a : Accumulator) (st : State) (x : JudgedFacts a st) (h : 0 < length (
   list-pair = x .pair list-alone
 
 -- ---- answers of calls
-
-pub said-no : {r b : Bool} → r ≡ b → not r ≡ true → b ≡ false
-said-no {r} e h = sym e ∙ not-true r h
-
-pub said-yes : {r b : Bool} → r ≡ b → not r ≡ false → b ≡ true
-said-yes {r} e h = sym e ∙ not-false r h
 
 pub empty-yes : (l : List ℕ) → length l ≡ 0 → isEmpty l ≡ true
 empty-yes l e = eq-eqb (length l) 0 e
@@ -373,7 +360,7 @@ module _ (st : State) where
     pair-yes h = go 13 0 (sym (either-no (inRange st) (not-true (unasked st) needs)) ∙ h)
 
 pub normal-high : (p : ℕ) → normalRange p ≡ true → p ≤ 24
-normal-high p e = leb-true p 24 (and-right (leb 4 p) (leb p 24) e)
+normal-high p e = leb-true p 24 (both-true (leb 4 p) (leb p 24) e .1)
 
 pub needs-listed : (st : State) → isEmpty (listOf st) ≡ false → true ≡ needsPair st
 needs-listed st e = sym (ap (λ (x : Bool). not (x && (not (isEmpty (dataOf st)) || eqb (st .hll .sparsePrecision) 0))) e)
@@ -683,11 +670,10 @@ judged-no a s n post = sym (post .answer)
 
 wanted-form : (f : Form) (a : Accumulator) (m : Mem) (st : State) → fitsForm f a m ≡ true → st .hll .precision ≤ 24 → wantedPrecision f a st ≤ 24
 wanted-form Unstarted a m st e h = h
-wanted-form Sparse a m st e h = normal-high (a .precision) (and-left (normalRange (a .precision)) (sparseFits a m) e)
+wanted-form Sparse a m st e h = normal-high (a .precision) (both-true (normalRange (a .precision)) (sparseFits a m) e .0)
 wanted-form Dense a m st e h =
     normal-high (a .precision)
-    (and-left (normalRange (a .precision)) (not (eqb (a .«sparse_precision») 0))
-    (and-left (normalRange (a .precision) && not (eqb (a .«sparse_precision») 0)) (denseFits a m) e))
+    (both-true (normalRange (a .precision)) (not (eqb (a .«sparse_precision») 0)) (both-true (normalRange (a .precision) && not (eqb (a .«sparse_precision») 0)) (denseFits a m) e .0) .0)
 
 pub wanted-high : (a : Accumulator) (m : Mem) (st : State) → RoomPre a m st → wantedPrecision (a .form) a st ≤ 24
 unfolding fits
@@ -773,15 +759,15 @@ unfolding hasRoom
 room-facts a m room st e =
     let r = leb (wantedRegisters a st) (length (m .registers)) in
     let w = wantedCells a st in
-    let e3 = and-left (r && leb w (length (m .sparse)) && leb w (length (m .pending))) (leb w room) e in
-    let e2 = and-left (r && leb w (length (m .sparse))) (leb w (length (m .pending))) e3 in
+    let e3 = both-true (r && leb w (length (m .sparse)) && leb w (length (m .pending))) (leb w room) e .0 in
+    let e2 = both-true (r && leb w (length (m .sparse))) (leb w (length (m .pending))) e3 .0 in
     record {
-      registers = leb-true _ _ (and-left r (leb w (length (m .sparse))) e2);
-      sparse = λ (h : 0 < length (listOf st)). cells h (length (m .sparse)) (and-right r (leb w (length (m .sparse))) e2);
+      registers = leb-true _ _ (both-true r (leb w (length (m .sparse))) e2 .0);
+      sparse = λ (h : 0 < length (listOf st)). cells h (length (m .sparse)) (both-true r (leb w (length (m .sparse))) e2 .1);
       pending = λ (h : 0 < length (listOf st)).
-          cells h (length (m .pending)) (and-right (r && leb w (length (m .sparse))) (leb w (length (m .pending))) e3);
+          cells h (length (m .pending)) (both-true (r && leb w (length (m .sparse))) (leb w (length (m .pending))) e3 .1);
       scratch = λ (h : 0 < length (listOf st)).
-          cells h room (and-right (r && leb w (length (m .sparse)) && leb w (length (m .pending))) (leb w room) e);
+          cells h room (both-true (r && leb w (length (m .sparse)) && leb w (length (m .pending))) (leb w room) e .1);
     }
   where
     cells : 0 < length (listOf st) → (n : ℕ) → leb (wantedCells a st) n ≡ true → a .«sparse_len» + a .«pending_len» + length (listOf st) ≤ n
@@ -839,7 +825,7 @@ low-refused a st h = pick (eqb (headerAnswer st) 0) refl
     pick true e =
         let p = st .hll .precision in
         let y = header-yes st (eqb-true (headerAnswer st) 0 e) in
-        absurd (let z : ⊥ = omega (arith, leb-true 4 p (and-left (leb 4 p) (leb p 24) (y .normal))) in z)
+        absurd (let z : ⊥ = omega (arith, leb-true 4 p (both-true (leb 4 p) (leb p 24) (y .normal) .0)) in z)
     pick false e = record { number = headerAnswer st; above = above-zero (headerAnswer st) (ap not e); is = refl }
 
 cut-refused-then : (a : Accumulator) (r : Read State) → CutReading r → Refuses (andThen r (λ st nothing. judgeState a st))

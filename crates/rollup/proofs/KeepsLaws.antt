@@ -11,6 +11,7 @@ use lib.ListN.{length, take, replicate, length-take, length-append, length-repli
 use lib.Seq.{length-take-le}
 use lib.Pow.{pow-mono}
 use borrow.Author.Tests.{leb-true, ltb-true, eqb-true, eqb-false}
+use Rattle.wire.proofs.BoolLaws.{both-true}
 use Rattle.wire.specs.State.{State}
 use Rattle.lists.specs.Values.{Pair, register}
 use Rattle.lists.specs.Sorting.{ascends}
@@ -29,7 +30,7 @@ use Rattle.rollup.specs.Header.{dataOf, listOf, isEmpty, maskOf}
 use Rattle.rollup.specs.Adding.{After, refuse, listHead, denseHead, commonMask, sumCount, startAfter, settle, waits, inserts, listAfter, sparseAfter, signedMin, signedKey, raisedByState, denseAfter, acceptedAfter, wantedPrecision, wantedCells, hasRoom, Ready, Shows}
 use Rattle.rollup.specs.declared.writing.Written.{Written}
 use Rattle.rollup.specs.Writing.{WritePost}
-use Rattle.rollup.proofs.FitLaws.{left, right, limit-small, FitSparse, FitDense, fit-none, fit-none-back, fit-sparse, fit-sparse-back, fit-dense, fit-dense-back}
+use Rattle.rollup.proofs.FitLaws.{limit-small, FitSparse, FitDense, fit-none, fit-none-back, fit-sparse, fit-sparse-back, fit-dense, fit-dense-back}
 use Rattle.rollup.proofs.JudgeLaws.{JudgedFacts, judged-facts}
 
 -- ---- values
@@ -59,7 +60,7 @@ in-list k l e = omega (arith, length-take k l)
 
 -- ---- a list head, and a dense one, that fit
 
--- What was left is looked at with the head that was to be left.
+-- What was both-true is looked at .0 with the head that was to be left.
 with-head : (x : After) (r : Accumulator) (n : Mem) → Shows x r n → (Shows x (x .head) n → fits (x .head) n ≡ true) → fits r n ≡ true
 with-head x r n sh f =
     ap (λ (h : Accumulator). fits h n) (sh .head)
@@ -182,7 +183,7 @@ module _ (a : Accumulator) (m : Mem) (room : ℕ) (st : State) (vs : List ℕ) (
       let q = leb (wantedCells a st) (length (m .pending)) in
       let c = leb (wantedCells a st) room in
       subst (λ (g : Form). registerBytes (wantedPrecision g a st) ≤ length (m .registers)) e
-      (leb-true (registerBytes (wantedPrecision (a .form) a st)) (length (m .registers)) (left w k (left (w && k) q (left (w && k && q) c (ready .space)))))
+      (leb-true (registerBytes (wantedPrecision (a .form) a st)) (length (m .registers)) (both-true w k (both-true (w && k) q (both-true (w && k && q) c (ready .space) .0) .0) .0))
 
   -- ---- the first state
 
@@ -300,8 +301,8 @@ module _ (a : Accumulator) (m : Mem) (room : ℕ) (st : State) (vs : List ℕ) (
     wait-list e =
         let p = a .precision in
         let b = a .«sparse_bytes» + 5 * a .«pending_len» + 5 * length vs in
-        let below : b < limit p = ltb-true b (limit p) (left (ltb b (limit p)) (leb (a .«pending_len» + length vs) 2048) e) in
-        let few : a .«pending_len» + length vs ≤ 2048 = leb-true _ _ (right (ltb b (limit p)) (leb (a .«pending_len» + length vs) 2048) e) in
+        let below : b < limit p = ltb-true b (limit p) (both-true (ltb b (limit p)) (leb (a .«pending_len» + length vs) 2048) e .0) in
+        let few : a .«pending_len» + length vs ≤ 2048 = leb-true _ _ (both-true (ltb b (limit p)) (leb (a .«pending_len» + length vs) 2048) e .1) in
         record {
           pair = fit .pair;
           kept-valid = fit .kept-valid;

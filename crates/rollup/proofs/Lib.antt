@@ -7,6 +7,8 @@ pub mod WriteLaws
 pub mod WrittenLaws
 pub mod KeepsLaws
 pub mod ViewLaws
+pub mod WidthLaws
 pub mod AgreementLaws
 pub mod FoldLaws
 pub mod Agreement
+pub mod WrittenRuns

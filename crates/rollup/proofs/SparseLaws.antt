@@ -10,6 +10,7 @@ use lib.Dec.{leb, eqb}
 use lib.ListN.{length, take, length-replicate, length-append}
 use lib.Seq.{length-take-le, take-at}
 use lib.Pow.{pow-mono}
+use Rattle.wire.proofs.BoolLaws.{both-true}
 use Rattle.wire.proofs.VarintLaws.{side}
 use borrow.Author.Tests.{lt-ltb, le-ltb, le-leb, lt-leb, eq-eqb, ne-eqb, eqb-true, leb-true, not-false}
 use Rattle.lists.specs.declared.values.Sparse.{Sparse as Encoding}
@@ -31,7 +32,7 @@ use Rattle.rollup.specs.Accumulator.{Mem, mem, keptOf, waitingOf, limit}
 use Rattle.wire.specs.State.{State}
 use Rattle.rollup.specs.Header.{dataOf, listOf, isEmpty, maskOf}
 use Rattle.rollup.specs.Adding.{After, waits, inserts, settle, listAfter, sparseAfter, commonMask, sumCount, wantedPrecision, wantedRegisters, wantedCells, hasRoom, Ready, Shows}
-use Rattle.rollup.proofs.FitLaws.{left, right, FitSparse, fit-sparse}
+use Rattle.rollup.proofs.FitLaws.{FitSparse, fit-sparse}
 use Rattle.rollup.proofs.JudgeLaws.{judged-facts}
 use Rattle.rollup.specs.SparsePaths.{counted, listed, densed, asList, asDense, settled, SettlePre, Leaves, WaitPre, ListReady, ListRoom, insertsNow, unionBytes, UnionPost, BackPre, JoinPre, asWaiting, mergedAfter, MergeSparsePre, DensifyPre}
 
@@ -322,10 +323,10 @@ module _ (p s : ℕ) (h : Accumulator) (kept : List ℕ) (k : ℕ) where
 -- What an insertion may take for granted.
 module _ (p s : ℕ) (h : Accumulator) (kept : List ℕ) (k : ℕ) (e : insertsNow p s h kept k ≡ true) where
   inserts-none : h .«pending_len» ≡ 0
-  inserts-none = eqb-true _ _ (left (eqb (h .«pending_len») 0) (few p s h kept k) e)
+  inserts-none = eqb-true _ _ (both-true (eqb (h .«pending_len») 0) (few p s h kept k) e .0)
 
   inserts-distinct : distinctSlots p s kept ≡ true
-  inserts-distinct = right (leb k 16 && leb (16 * k) (h .«sparse_len»)) (distinctSlots p s kept) (right (eqb (h .«pending_len») 0) (few p s h kept k) e)
+  inserts-distinct = both-true (leb k 16 && leb (16 * k) (h .«sparse_len»)) (distinctSlots p s kept) (both-true (eqb (h .«pending_len») 0) (few p s h kept k) e .1) .1
 
 module _ (enc : Encoding) (h : Accumulator) (sparse pending scratch : List ℕ) (k : ℕ) (fits : SparseFits enc)
     (ready : ListReady (enc .«normal_precision») (enc .«sparse_precision») h (take (h .«sparse_len») sparse) (take (h .«pending_len») pending) (take k scratch))
@@ -630,13 +631,13 @@ spaces a m room st e =
     let s = leb (wantedCells a st) (length (m .sparse)) in
     let p = leb (wantedCells a st) (length (m .pending)) in
     let w = leb (wantedCells a st) room in
-    let e3 = left (r && s && p) w e in
-    let e2 = left (r && s) p e3 in
+    let e3 = both-true (r && s && p) w e .0 in
+    let e2 = both-true (r && s) p e3 .0 in
     record {
-      registers-fit = leb-true (wantedRegisters a st) (length (m .registers)) (left r s e2);
-      sparse-fit = leb-true (wantedCells a st) (length (m .sparse)) (right r s e2);
-      pending-fit = leb-true (wantedCells a st) (length (m .pending)) (right (r && s) p e3);
-      scratch-fit = leb-true (wantedCells a st) room (right (r && s && p) w e);
+      registers-fit = leb-true (wantedRegisters a st) (length (m .registers)) (both-true r s e2 .0);
+      sparse-fit = leb-true (wantedCells a st) (length (m .sparse)) (both-true r s e2 .1);
+      pending-fit = leb-true (wantedCells a st) (length (m .pending)) (both-true (r && s) p e3 .1);
+      scratch-fit = leb-true (wantedCells a st) room (both-true (r && s && p) w e .1);
     }
 
 some-of : (n : ℕ) → (n ≡ 0 → ⊥) → 0 < n

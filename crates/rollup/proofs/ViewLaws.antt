@@ -15,11 +15,9 @@ use Rattle.wire.proofs.BoundLaws.{sparse-data-within, sparse-precision-small, r
 use Rattle.lists.proofs.DecodingLaws.{accepted, decode-number}
 use Rattle.rollup.specs.declared.accumulator.Accumulator.{Accumulator}
 use Rattle.rollup.specs.declared.adding.Added.{Added}
-use Rattle.rollup.specs.declared.writing.Written.{Written}
 use Rattle.rollup.specs.Accumulator.{Mem, fits, fresh}
 use Rattle.rollup.specs.Header.{listOf, headerAnswer}
 use Rattle.rollup.specs.Adding.{Outcome, unchanged, refuse, accept, acceptedAfter, masksMeet, carried, judgeState, judge, hasRoom, listedIn, addOutcome, Ready, Shows, AddPost}
-use Rattle.rollup.specs.Writing.{WritePost}
 use Rattle.rollup.specs.Calls.{Call, Run, begun, adding, writing, valueOr, stateIn, valuesIn}
 use Rattle.rollup.proofs.FitLaws.{fit-none-back}
 use Rattle.rollup.proofs.AddLaws.{add-judged, add-full, add-listed, add-accepted}

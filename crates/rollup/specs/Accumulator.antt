@@ -1,7 +1,6 @@
 -- The accumulator (document 01's head) and its lent memory, and what fits (question 1).
-use mathlib.Core.Path.{_≡_}
-use mathlib.Core.List.{List, [], _++_}
-use mathlib.Core.Bool.{Bool, true, false, _&&_, _||_, not}
+use mathlib.Core.List.{List}
+use mathlib.Core.Bool.{Bool, _&&_, _||_, not}
 use Prim.Native.Nat.{ℕ, _+_, _-_, _*_, _^_}
 use lib.Dec.{ltb, leb, eqb}
 use lib.ListN.{length, take}

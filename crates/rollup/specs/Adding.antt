@@ -6,7 +6,7 @@ use mathlib.Core.Bool.{Bool, true, false, cond, _&&_, _||_, not}
 use Prim.Native.Nat.{ℕ, _+_, _-_, _*_, _%_, _^_, _≤_, min}
 use lib.Dec.{ltb, leb, eqb}
 use lib.Bits.{bitAnd}
-use lib.ListN.{length, take, replicate}
+use lib.ListN.{length, replicate}
 use Rattle.wire.specs.Reading.{Read, got, refused, andThen}
 use Rattle.wire.specs.State.{State, readState}
 use Rattle.lists.specs.Lists.{decodeOf, merged, written, distinctSlots}

@@ -6,7 +6,7 @@ use mathlib.Core.Bool.{cond}
 use Prim.Native.Nat.{ℕ, _-_, _^_, _<_, min}
 use lib.Dec.{eqb}
 use lib.Bits.{bitAnd}
-use lib.ListN.{length}
+use lib.ListN.{length, take}
 use Rattle.wire.specs.Reading.{Read, got, refused}
 use Rattle.wire.specs.State.{State, emptyState, readState}
 use Rattle.lists.specs.Values.{rank}
@@ -19,7 +19,7 @@ use Rattle.rollup.specs.declared.writing.Written.{Written}
 use Rattle.rollup.specs.Accumulator.{Mem, keptOf, waitingOf, fresh}
 use Rattle.rollup.specs.Header.{dataOf, isEmpty, maskOf}
 use Rattle.rollup.specs.Adding.{listedIn, signedMin, addOutcome, AddPost}
-use Rattle.rollup.specs.Writing.{writeOutcome, WritePost}
+use Rattle.rollup.specs.Writing.{stateForm, writeOutcome, WritePost}
 
 -- ---- runs
 
@@ -146,3 +146,25 @@ OrderFree =
     (room room′ : ℕ) (first first′ : Mem) (c d : List Call) (a b : Accumulator) (m n : Mem) → Run room first c a m → Run room′ first′ d b n
     → NoZeroRank (states c) → SameStates c d
     → Alike a m b n
+
+-- ---- what is written
+
+-- Bytes that are the roll-up's state: reading them gives its numbers, and their registers are the roll-up's.
+pub record WrittenIs (a : Accumulator) (m : Mem) (bytes : List ℕ) : Type 0 where
+  pub read : readState bytes ≡ got (stateForm (a .form) a m) []
+  pub precision : stateIn bytes .hll .precision ≡ a .precision
+  pub sparse-precision : stateIn bytes .hll .sparsePrecision ≡ a .«sparse_precision»
+  pub registers : registersIn (stateIn bytes) ≡ rollupRegisters (a .form) a m
+
+-- After any run, what a write that answered 0 left at the front of its output is such bytes.
+unfoldable pub WrittenReads : Type 0
+WrittenReads =
+    (room : ℕ) (first : Mem) (calls : List Call) (a : Accumulator) (m : Mem) → Run room first calls a m → (out : List ℕ) (r : Written) (n : Mem)
+    (after : List ℕ) → WritePost a m room out r n after → r .answer ≡ 0 → WrittenIs a m (take (r .len) after)
+
+-- And no proper prefix of it is accepted, by any roll-up: a state that was cut off on its way is refused, whatever head and memory it meets.
+unfoldable pub NoPrefixAccepted : Type 0
+NoPrefixAccepted =
+    (room : ℕ) (first : Mem) (calls : List Call) (a : Accumulator) (m : Mem) → Run room first calls a m → (out : List ℕ) (r : Written) (n : Mem)
+    (after : List ℕ) → WritePost a m room out r n after → r .answer ≡ 0 → (k : ℕ) → k < r .len → (b : Accumulator) (l : Mem) (room′ : ℕ)
+    → addOutcome b l room′ (take k after) .answer ≡ 0 → ⊥

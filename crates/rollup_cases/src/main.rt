@@ -27,11 +27,18 @@ fn list_cells() -> [u32; 8192]
     [2779096485; 8192]
 }
 
-// Room for the cases.
-fn stream_bytes() -> [u8; 131072]
-    ensures { λ r. ⌜ 131072 ≡ length r ⌝ }
+// An output, filled in the same way.
+fn output_bytes() -> [u8; 20480]
+    ensures { λ r. ⌜ 20480 ≡ length r ⌝ }
 {
-    [0; 131072]
+    [165; 20480]
+}
+
+// Room for the cases.
+fn stream_bytes() -> [u8; 163840]
+    ensures { λ r. ⌜ 163840 ≡ length r ⌝ }
+{
+    [0; 163840]
 }
 
 // ---- heads
@@ -150,6 +157,85 @@ fn add_line(
     state_case(kind, head, registers, sparse, pending, scratch, &bytes[..n])
 }
 
+// A size of at most `most`, which stands for a larger one too.
+fn size(word: &[u8], most: usize) -> usize
+    ensures { λ r. ⌜ r ≤ most ⌝ }
+{
+    let v = text::number(word) as usize;
+    if v < most { v } else { most }
+}
+
+fn write_case(
+    head: Accumulator,
+    registers: &[u8],
+    sparse: &[u32],
+    pending: &mut [u32],
+    scratch: &mut [u32],
+    out: &mut [u8],
+) {
+    let r = rollup::writing::write(head, registers, sparse, pending, scratch, out);
+    answers::print_written(r.answer, r.len, &out[..]);
+    answers::print_memory(head, registers, sparse, &pending[..]);
+    text::end_line();
+}
+
+// The same by the function that asks for a head that fits.
+fn write_fitting_case(
+    head: Accumulator,
+    registers: &[u8],
+    sparse: &[u32],
+    pending: &mut [u32],
+    scratch: &mut [u32],
+    out: &mut [u8],
+) {
+    if !rollup::fitting::fits(head, registers, sparse, &pending[..]) {
+        text::bad_case();
+        return;
+    }
+    let r = rollup::writing::write_fitting(head, registers, sparse, pending, scratch, out);
+    answers::print_written(r.answer, r.len, &out[..]);
+    answers::print_memory(head, registers, sparse, &pending[..]);
+    text::end_line();
+}
+
+fn output_case(
+    kind: u8,
+    head: Accumulator,
+    registers: &[u8],
+    sparse: &[u32],
+    pending: &mut [u32],
+    scratch: &mut [u32],
+    out: &mut [u8],
+) {
+    if kind == b'u' {
+        write_fitting_case(head, registers, sparse, pending, scratch, out);
+    } else {
+        write_case(head, registers, sparse, pending, scratch, out);
+    }
+}
+
+fn write_line(
+    kind: u8,
+    head: Accumulator,
+    registers: &[u8],
+    sparse: &[u32],
+    pending: &mut [u32],
+    scratch: &mut [u32],
+    line: &[u8],
+) {
+    let n = size(text::word(line, 1), 20480);
+    let mut out = output_bytes();
+    output_case(
+        kind,
+        head,
+        registers,
+        sparse,
+        pending,
+        scratch,
+        &mut out[..n],
+    );
+}
+
 // ---- lines
 
 fn remark(line: &[u8]) {
@@ -173,6 +259,15 @@ fn case(
     let kind = line[0];
     match kind {
         b'a' | b'f' => return add_line(kind, head, registers, sparse, pending, scratch, line),
+        b'o' | b'u' => write_line(
+            kind,
+            head,
+            &registers[..],
+            &sparse[..],
+            pending,
+            scratch,
+            line,
+        ),
         b'h' => return head_line(line),
         b'r' => registers_line(line, registers),
         b'k' => list_line(line, sparse),
@@ -226,14 +321,6 @@ fn lend(text: &[u8], start: usize, r: usize, k: usize, w: usize, s: usize) -> us
         &mut pending[..w],
         &mut scratch[..s],
     )
-}
-
-// A size of at most `most`, which stands for a larger one too.
-fn size(word: &[u8], most: usize) -> usize
-    ensures { λ r. ⌜ r ≤ most ⌝ }
-{
-    let v = text::number(word) as usize;
-    if v < most { v } else { most }
 }
 
 // A new roll-up, whose lines start at `start`.

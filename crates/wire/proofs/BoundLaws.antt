@@ -1,7 +1,7 @@
 -- What was read of a list of bytes is no longer than it: the sparse data of a state has no more bytes than the state, and a 32-bit number fits 32 bits.
 -- And what was refused has a number above 0.
 use Prim.Native.Nat.{ℕ, zero, suc, _%_, _^_, _<_, _≤_}
-use mathlib.Core.Path.{_≡_, refl, subst}
+use mathlib.Core.Path.{_≡_, subst}
 use mathlib.Core.List.{List, [], _∷_}
 use mathlib.Core.Bool.{Bool, true, false, cond}
 use mathlib.Core.Option.{some}
@@ -12,7 +12,7 @@ use lib.Dec.{ltb, leb, eqb}
 use Rattle.wire.specs.Reading.{Read, got, refused, andThen}
 use Rattle.wire.specs.Varints.{payload, varintOf, lowBits, varint64}
 use Rattle.wire.specs.Fields.{tag, VARINT, I64, LEN, I32, isTag, tagOf, bytesOf, delimitedOf, skipOf, fieldOf, fieldsOf, messageOf}
-use Rattle.wire.specs.State.{HllState, State, emptyHll, emptyState, bytesOrNone, isHllNumber, withHllNumber, isHllBytes, withHllBytes, hllNumberOf, hllBytesOf, otherOf, hllField, readHll, isNumber, withNumber, withHll, numberOf, nestedOf, outerField, readState}
+use Rattle.wire.specs.State.{HllState, State, emptyState, bytesOrNone, isHllNumber, withHllNumber, isHllBytes, withHllBytes, hllNumberOf, hllBytesOf, otherOf, hllField, readHll, isNumber, withNumber, withHll, numberOf, nestedOf, outerField, readState}
 
 -- Where a value was read, it has a property and no more than n bytes are left; a refusal has a number above 0.
 abbrev Reads : {A : Type 0} → (A → Type 0) → ℕ → Read A → Type 0
@@ -44,12 +44,16 @@ varint-reads (suc k) (b ∷ l) =
     more (got v rest) h = (tt, (let g : length rest ≤ length (b ∷ l) = omega (arith, h .1) in g))
     more (refused n) h = h
 
-varint64-reads : (l : List ℕ) → Reads Anything (length l) (varint64 l)
+-- A number below 2^64.
+abbrev Below : ℕ → Type 0
+Below v = v < 2 ^ 64
+
+varint64-reads : (l : List ℕ) → Reads Below (length l) (varint64 l)
 unfolding varint64
 varint64-reads l = low (varintOf 10 l) (varint-reads 10 l)
   where
-    low : (r : Read ℕ) → Reads Anything (length l) r → Reads Anything (length l) (lowBits 64 r)
-    low (got v rest) h = (tt, h .1)
+    low : (r : Read ℕ) → Reads Anything (length l) r → Reads Below (length l) (lowBits 64 r)
+    low (got v rest) h = (mod-lt v (let g : 0 < 2 ^ 64 = omega arith in g), h .1)
     low (refused n) h = h
 
 -- Bytes that were taken of a list are no more than it has.
@@ -65,14 +69,14 @@ bytes-reads n k l h =
 delimited-reads : (l : List ℕ) → Reads (Within (length l)) (length l) (delimitedOf l)
 unfolding delimitedOf
 delimited-reads l =
-    reads-then Anything (Within (length l)) (length l) (length l) (varint64 l) (λ n rest. bytesOf n rest) (varint64-reads l)
-    (λ (n : ℕ) (rest : List ℕ) (x : Unit) (h : length rest ≤ length l). bytes-reads n (length l) rest h)
+    reads-then Below (Within (length l)) (length l) (length l) (varint64 l) (λ n rest. bytesOf n rest) (varint64-reads l)
+    (λ (n : ℕ) (rest : List ℕ) (x : n < 2 ^ 64) (h : length rest ≤ length l). bytes-reads n (length l) rest h)
 
 tag-reads : (l : List ℕ) → Reads Anything (length l) (tagOf l)
 unfolding tagOf
 tag-reads l =
-    reads-then Anything Anything (length l) (length l) (varint64 l) (λ t rest. cond (isTag t) (got t rest) (refused 5)) (varint64-reads l)
-    (λ (t : ℕ) (rest : List ℕ) (x : Unit) (h : length rest ≤ length l). either Anything (length l) (isTag t) (got t rest) (refused 5) (tt, h) (omega arith))
+    reads-then Below Anything (length l) (length l) (varint64 l) (λ t rest. cond (isTag t) (got t rest) (refused 5)) (varint64-reads l)
+    (λ (t : ℕ) (rest : List ℕ) (x : t < 2 ^ 64) (h : length rest ≤ length l). either Anything (length l) (isTag t) (got t rest) (refused 5) (tt, h) (omega arith))
 
 skip-reads : (t : ℕ) (l : List ℕ) → Reads Anything (length l) (skipOf t l)
 unfolding skipOf
@@ -86,7 +90,7 @@ skip-reads t l =
     let other = cond (eqb (t % 8) LEN) bytes four in
     let eight = cond (eqb (t % 8) I64) (fixed 8) other in
     either Anything n (eqb (t % 8) VARINT) number eight
-    (reads-then Anything Anything n n (varint64 l) (λ v rest. got tt rest) (varint64-reads l) (λ (v : ℕ) (rest : List ℕ) (x : Unit) (h : length rest ≤ n). (tt, h)))
+    (reads-then Below Anything n n (varint64 l) (λ v rest. got tt rest) (varint64-reads l) (λ (v : ℕ) (rest : List ℕ) (x : v < 2 ^ 64) (h : length rest ≤ n). (tt, h)))
     (either Anything n (eqb (t % 8) I64) (fixed 8) other (past 8)
     (either Anything n (eqb (t % 8) LEN) bytes four
     (reads-then (Within n) Anything n n (delimitedOf l) (λ v rest. got tt rest) (delimited-reads l)
@@ -118,6 +122,7 @@ module _ {A : Type 0} (field : ℕ → List ℕ → A → Read A) (good : A → 
 record Bounded (n : ℕ) (h : HllState) : Type 0 where
   list : length (bytesOrNone (h .sparseData)) ≤ n
   sparse : h .sparsePrecision < 2 ^ 32
+  size : h .sparseSize < 2 ^ 32
 
 with-number : (n t v : ℕ) (h : HllState) → Bounded n h → Bounded n (withHllNumber t v h)
 with-number n t v h b = go (eqb t (tag 2 VARINT)) (eqb t (tag 3 VARINT))
@@ -129,9 +134,9 @@ with-number n t v h b = go (eqb t (tag 2 VARINT)) (eqb t (tag 3 VARINT))
         (cond y
         (record { sparseSize = h .sparseSize; precision = v % 2 ^ 32; sparsePrecision = h .sparsePrecision; «data» = h .«data»; sparseData = h .sparseData })
         (record { sparseSize = h .sparseSize; precision = h .precision; sparsePrecision = v % 2 ^ 32; «data» = h .«data»; sparseData = h .sparseData })))
-    go true y = record { list = b .list; sparse = b .sparse }
-    go false true = record { list = b .list; sparse = b .sparse }
-    go false false = record { list = b .list; sparse = mod-lt v (let g : 0 < 2 ^ 32 = omega arith in g) }
+    go true y = record { list = b .list; sparse = b .sparse; size = mod-lt v (let g : 0 < 2 ^ 32 = omega arith in g) }
+    go false true = record { list = b .list; sparse = b .sparse; size = b .size }
+    go false false = record { list = b .list; sparse = mod-lt v (let g : 0 < 2 ^ 32 = omega arith in g); size = b .size }
 
 with-bytes : (n t : ℕ) (d : List ℕ) (h : HllState) → length d ≤ n → Bounded n h → Bounded n (withHllBytes t d h)
 with-bytes n t d h e b = go (eqb t (tag 5 LEN))
@@ -141,8 +146,8 @@ with-bytes n t d h e b = go (eqb t (tag 5 LEN))
         (cond x
         (record { sparseSize = h .sparseSize; precision = h .precision; sparsePrecision = h .sparsePrecision; «data» = some d; sparseData = h .sparseData })
         (record { sparseSize = h .sparseSize; precision = h .precision; sparsePrecision = h .sparsePrecision; «data» = h .«data»; sparseData = some d }))
-    go true = record { list = b .list; sparse = b .sparse }
-    go false = record { list = e; sparse = b .sparse }
+    go true = record { list = b .list; sparse = b .sparse; size = b .size }
+    go false = record { list = e; sparse = b .sparse; size = b .size }
 
 other-keeps : {A : Type 0} (good : A → Type 0) (n t : ℕ) (l : List ℕ) (a : A) → length l ≤ n → good a → Reads good n (otherOf t l a)
 other-keeps good n t l a h g =
@@ -153,8 +158,8 @@ hll-keeps : (n t : ℕ) (l : List ℕ) (h : HllState) → length l ≤ n → Bou
 unfolding hllField
 hll-keeps n t l h e b =
     either (Bounded n) n (isHllNumber t) (hllNumberOf t l h) (cond (isHllBytes t) (hllBytesOf t l h) (otherOf t l h))
-    (reads-then Anything (Bounded n) (length l) n (varint64 l) (λ v rest. got (withHllNumber t v h) rest) (varint64-reads l)
-    (λ (v : ℕ) (rest : List ℕ) (x : Unit) (i : length rest ≤ length l). (with-number n t v h b, (let j : length rest ≤ n = omega arith in j))))
+    (reads-then Below (Bounded n) (length l) n (varint64 l) (λ v rest. got (withHllNumber t v h) rest) (varint64-reads l)
+    (λ (v : ℕ) (rest : List ℕ) (x : v < 2 ^ 64) (i : length rest ≤ length l). (with-number n t v h b, (let j : length rest ≤ n = omega arith in j))))
     (either (Bounded n) n (isHllBytes t) (hllBytesOf t l h) (otherOf t l h)
     (reads-then (Within (length l)) (Bounded n) (length l) n (delimitedOf l) (λ d rest. got (withHllBytes t d h) rest) (delimited-reads l)
     (λ (d rest : List ℕ) (x : length d ≤ length l) (i : length rest ≤ length l).
@@ -163,9 +168,11 @@ hll-keeps n t l h e b =
 -- The same of a state.
 record StateBounded (n : ℕ) (st : State) : Type 0 where
   nested : Bounded n (st .hll)
+  count : st .numValues < 2 ^ 64
+  kind : st .valueType < 2 ^ 32
 
-with-outer : (n t v : ℕ) (st : State) → StateBounded n st → StateBounded n (withNumber t v st)
-with-outer n t v st b = go (eqb t (tag 1 VARINT)) (eqb t (tag 2 VARINT)) (eqb t (tag 3 VARINT))
+with-outer : (n t v : ℕ) (st : State) → v < 2 ^ 64 → StateBounded n st → StateBounded n (withNumber t v st)
+with-outer n t v st low b = go (eqb t (tag 1 VARINT)) (eqb t (tag 2 VARINT)) (eqb t (tag 3 VARINT))
   where
     go : (x y z : Bool)
         → StateBounded n
@@ -176,33 +183,33 @@ with-outer n t v st b = go (eqb t (tag 1 VARINT)) (eqb t (tag 2 VARINT)) (eqb t 
         (cond z
         (record { aggregatorType = st .aggregatorType; numValues = st .numValues; encodingVersion = v % 2 ^ 32; valueType = st .valueType; hll = st .hll })
         (record { aggregatorType = st .aggregatorType; numValues = st .numValues; encodingVersion = st .encodingVersion; valueType = v % 2 ^ 32; hll = st .hll }))))
-    go true y z = record { nested = b .nested }
-    go false true z = record { nested = b .nested }
-    go false false true = record { nested = b .nested }
-    go false false false = record { nested = b .nested }
+    go true y z = record { nested = b .nested; count = b .count; kind = b .kind }
+    go false true z = record { nested = b .nested; count = low; kind = b .kind }
+    go false false true = record { nested = b .nested; count = b .count; kind = b .kind }
+    go false false false = record { nested = b .nested; count = b .count; kind = mod-lt v (let g : 0 < 2 ^ 32 = omega arith in g) }
 
 outer-keeps : (n t : ℕ) (l : List ℕ) (st : State) → length l ≤ n → StateBounded n st → Reads (StateBounded n) n (outerField t l st)
 unfolding outerField readHll
 outer-keeps n t l st e b =
     either (StateBounded n) n (isNumber t) (numberOf t l st) (cond (eqb t (tag 112 LEN)) (nestedOf l st) (otherOf t l st))
-    (reads-then Anything (StateBounded n) (length l) n (varint64 l) (λ v rest. got (withNumber t v st) rest) (varint64-reads l)
-    (λ (v : ℕ) (rest : List ℕ) (x : Unit) (i : length rest ≤ length l). (with-outer n t v st b, (let j : length rest ≤ n = omega arith in j))))
+    (reads-then Below (StateBounded n) (length l) n (varint64 l) (λ v rest. got (withNumber t v st) rest) (varint64-reads l)
+    (λ (v : ℕ) (rest : List ℕ) (x : v < 2 ^ 64) (i : length rest ≤ length l). (with-outer n t v st x b, (let j : length rest ≤ n = omega arith in j))))
     (either (StateBounded n) n (eqb t (tag 112 LEN)) (nestedOf l st) (otherOf t l st)
     (reads-then (Within (length l)) (StateBounded n) (length l) n (delimitedOf l)
     (λ m rest. andThen (readHll m (st .hll)) (λ h nothing. got (withHll h st) rest)) (delimited-reads l)
     (λ (m rest : List ℕ) (x : length m ≤ length l) (i : length rest ≤ length l).
     reads-then (Bounded n) (StateBounded n) n n (readHll m (st .hll)) (λ h nothing. got (withHll h st) rest)
     (message-keeps hllField (Bounded n) n (hll-keeps n) m (st .hll) (let j : length m ≤ n = omega arith in j) (b .nested))
-    (λ (h : HllState) (nothing : List ℕ) (y : Bounded n h) (k : length nothing ≤ n). (record { nested = y }, (let j : length rest ≤ n = omega arith in j)))))
+    (λ (h : HllState) (nothing : List ℕ) (y : Bounded n h) (k : length nothing ≤ n). (record { nested = y; count = b .count; kind = b .kind }, (let j : length rest ≤ n = omega arith in j)))))
     (other-keeps (StateBounded n) n t l st e b))
 
 read-bounded : (s : List ℕ) → Reads (StateBounded (length s)) (length s) (readState s)
 unfolding readState
 read-bounded s =
     message-keeps outerField (StateBounded (length s)) (length s) (outer-keeps (length s)) s emptyState (omega arith)
-    (record { nested = record { list = omega arith; sparse = omega arith } })
+    (record { nested = record { list = omega arith; sparse = omega arith; size = omega arith }; count = omega arith; kind = omega arith })
 
--- A state's list has no more bytes than the state, and its s is one of 32 bits.
+-- A state's list has no more bytes than the state, and its numbers fit their widths.
 module _ (s : List ℕ) (st : State) (l : List ℕ) (e : readState s ≡ got st l) where
   bounded : StateBounded (length s) st
   bounded = subst (Reads (StateBounded (length s)) (length s)) e (read-bounded s) .0
@@ -212,6 +219,15 @@ module _ (s : List ℕ) (st : State) (l : List ℕ) (e : readState s ≡ got st 
 
   pub sparse-precision-small : st .hll .sparsePrecision < 2 ^ 32
   sparse-precision-small = bounded .nested .sparse
+
+  pub sparse-size-small : st .hll .sparseSize < 2 ^ 32
+  sparse-size-small = bounded .nested .size
+
+  pub count-small : st .numValues < 2 ^ 64
+  count-small = bounded .count
+
+  pub value-type-small : st .valueType < 2 ^ 32
+  value-type-small = bounded .kind
 
 -- A state that is not read is refused with a number above 0.
 pub read-number : (s : List ℕ) (n : ℕ) → readState s ≡ refused n → 0 < n

@@ -1,4 +1,5 @@
 -- The laws, each file after those that it needs.
+pub mod BoolLaws
 pub mod VarintLaws
 pub mod ReadingLaws
 pub mod StateLaws

@@ -5,7 +5,6 @@ use mathlib.Core.Bool.{Bool, cond, _&&_}
 use Prim.Native.Nat.{ℕ, zero, suc, _+_, _*_, _-_, _/_, _%_, _^_, _≤_, _<_}
 use lib.Dec.{ltb, leb, eqb}
 use lib.ListN.{length, take, drop}
-use Rattle.wire.specs.declared.varint.Cursor.{Cursor}
 use Rattle.wire.specs.declared.fields.Tag.{Tag}
 use Rattle.wire.specs.declared.fields.Tag.the-variants.{Value, Refused as TagRefused}
 use Rattle.wire.specs.declared.fields.Taken.{Taken}

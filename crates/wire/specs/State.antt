@@ -3,10 +3,9 @@ use mathlib.Core.Path.{_≡_}
 use mathlib.Core.List.{List, []}
 use mathlib.Core.Option.{Option, none, some}
 use mathlib.Core.Bool.{Bool, true, false, cond, _||_}
-use Prim.Native.Nat.{ℕ, _+_, _%_, _^_, _≤_, _<_}
+use Prim.Native.Nat.{ℕ, _+_, _%_, _^_, _≤_}
 use lib.Dec.{eqb}
 use lib.ListN.{length, take, drop}
-use Rattle.wire.specs.declared.varint.Cursor.{Cursor}
 use Rattle.wire.specs.declared.state.Part.{Part}
 use Rattle.wire.specs.declared.state.HllFields.{HllFields}
 use Rattle.wire.specs.declared.state.Fields.{Fields}
@@ -20,7 +19,7 @@ use Rattle.wire.specs.declared.state.Parsed.{Parsed}
 use Rattle.wire.specs.declared.state.Parsed.the-variants.{Read as StateRead, Refused as StateRefused}
 use Rattle.wire.specs.Reading.{Read, got, refused, andThen}
 use Rattle.wire.specs.Varints.{varint64}
-use Rattle.wire.specs.Fields.{tag, VARINT, LEN, delimitedOf, skipOf, fieldOf, messageOf}
+use Rattle.wire.specs.Fields.{tag, VARINT, LEN, delimitedOf, skipOf, messageOf}
 
 -- The nested message. A number is the unsigned one of the same bits; "an absent data field and an empty one are told apart".
 pub record HllState : Type 0 where

@@ -7,7 +7,6 @@ use Prim.Native.Nat.{ℕ, zero, suc, _+_, _*_, _/_, _%_, _^_, _≤_, _<_}
 use lib.Dec.{ltb}
 use lib.ListN.{length, drop}
 use lib.Seq.{sets}
-use Rattle.wire.specs.declared.varint.Cursor.{Cursor}
 use Rattle.wire.specs.declared.varint.Varint.{Varint}
 use Rattle.wire.specs.declared.varint.Varint.the-variants.{Value, Cut, Long}
 use Rattle.wire.specs.Reading.{Read, got, refused}

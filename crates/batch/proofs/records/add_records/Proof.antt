@@ -4,10 +4,10 @@ use mathlib.Core.Path.{_≡_, refl, ap, _∙_, subst}
 use native.Mathlib.Omega.{arith}
 use lib.ListN.{length, take, drop, length-set}
 use denote.Ref.{now}
+use Rattle.wire.proofs.BoolLaws.{said-yes, said-no}
 use Rattle.rollup.specs.Accumulator.{Mem, mem}
 use Rattle.rollup.specs.Adding.{AddPost}
 use Rattle.batch.specs.Chain.{lengthAt}
-use Rattle.rollup.proofs.JudgeLaws.{said-yes, said-no}
 use Rattle.rollup.proofs.ViewLaws.{run-fits}
 use Rattle.batch.proofs.ChainLaws.{Going, batch-size, record-inside, cell-left, going-start, going-turn, stop-whole, stop-refused, stop-full}
 use borrow.Author.Needs.{needs}

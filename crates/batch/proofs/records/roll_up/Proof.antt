@@ -1,8 +1,8 @@
 -- Question 24, and then the loop.
 use lib.ListN.{length}
 use denote.Ref.{now}
+use Rattle.wire.proofs.BoolLaws.{said-yes, said-no}
 use Rattle.rollup.specs.Accumulator.{mem}
-use Rattle.rollup.proofs.JudgeLaws.{said-yes, said-no}
 use Rattle.batch.proofs.ChainLaws.{no-batch}
 use borrow.Author.Needs.{needs}
 use Rattle.batch.proofs.records.roll_up.Statement.{statement}

@@ -5,7 +5,8 @@ use mathlib.Core.Logic.{⊎-elim, inl, inr}
 use native.Mathlib.Omega.{arith}
 use lib.ListN.{length, getD}
 use denote.Ref.{now}
-use Rattle.lists.proofs.IndexLaws.{Walking, walk-start, walk-on, walk-less, walk-out, valid-at}
+use Rattle.lists.proofs.MergeLaws.{valid-at}
+use Rattle.lists.proofs.IndexLaws.{Walking, walk-start, walk-on, walk-less, walk-out}
 use borrow.Author.Needs.{needs}
 use Rattle.lists.proofs.indices.distinct_indices.Statement.{statement}
 use Rattle.lists.proofs.indices.distinct_indices.Tie as tie

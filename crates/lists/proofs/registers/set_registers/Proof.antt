@@ -8,7 +8,8 @@ use borrow.Author.Needs.{needs}
 use Rattle.lists.specs.Values.{register, rank}
 use Rattle.lists.specs.Registers.{registersOf, withRegisters}
 use Rattle.lists.proofs.RankLaws.{raised-with}
-use Rattle.lists.proofs.RegisterLaws.{Setting, setting-none, setting-room, setting-turn, setting-end, valid-at}
+use Rattle.lists.proofs.MergeLaws.{valid-at}
+use Rattle.lists.proofs.RegisterLaws.{Setting, setting-none, setting-room, setting-turn, setting-end}
 use Rattle.lists.proofs.registers.set_registers.Statement.{statement}
 use Rattle.lists.proofs.registers.set_registers.Tie as tie
 

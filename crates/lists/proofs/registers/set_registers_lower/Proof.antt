@@ -7,7 +7,8 @@ use denote.Ref.{now}
 use borrow.Author.Needs.{needs}
 use Rattle.lists.specs.Registers.{registersOf, withRegisters}
 use Rattle.lists.proofs.RankLaws.{lower-with, lowerIndex, lowerRank}
-use Rattle.lists.proofs.RegisterLaws.{Setting, setting-none, setting-room, setting-turn, setting-end, valid-at}
+use Rattle.lists.proofs.MergeLaws.{valid-at}
+use Rattle.lists.proofs.RegisterLaws.{Setting, setting-none, setting-room, setting-turn, setting-end}
 use Rattle.lists.proofs.registers.set_registers_lower.Statement.{statement}
 use Rattle.lists.proofs.registers.set_registers_lower.Tie as tie
 

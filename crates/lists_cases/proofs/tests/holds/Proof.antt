@@ -1,5 +1,3 @@
-use mathlib.Core.Path.{_≡_}
-use native.Mathlib.Omega.{arith}
 use denote.Ref.{now}
 use Rattle.lists_cases.proofs.Laws.{never, holding}
 use borrow.Author.Needs.{needs}

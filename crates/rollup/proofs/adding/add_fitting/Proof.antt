@@ -2,8 +2,8 @@
 use Prim.Native.Nat.{ℕ}
 use lib.ListN.{length}
 use denote.Ref.{now}
+use Rattle.wire.proofs.BoolLaws.{said-yes, said-no}
 use Rattle.rollup.specs.Accumulator.{Mem, mem}
-use Rattle.rollup.proofs.JudgeLaws.{said-yes, said-no}
 use Rattle.rollup.proofs.AddLaws.{judge-stop, room-pre, room-stop, list-pre, list-stop, accept-pre, all-accepted}
 use borrow.Author.Needs.{needs}
 use Rattle.rollup.proofs.adding.add_fitting.Statement.{statement}

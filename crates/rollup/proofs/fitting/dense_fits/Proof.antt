@@ -1,6 +1,7 @@
 -- Each test is one part of the definition, and the registers answer for all where the others were passed.
 use mathlib.Core.Path.{_∙_}
-use Rattle.rollup.proofs.FitLaws.{said-yes, said-no, range-of, asked-normal, asked-sparse, asked-none, asked-registers}
+use Rattle.wire.proofs.BoolLaws.{said-yes, said-no}
+use Rattle.rollup.proofs.FitLaws.{range-of, asked-normal, asked-sparse, asked-none, asked-registers}
 use borrow.Author.Needs.{needs}
 use Rattle.rollup.proofs.fitting.dense_fits.Statement.{statement}
 use Rattle.rollup.proofs.fitting.dense_fits.Tie as tie

@@ -2,7 +2,8 @@
 use mathlib.Core.Path.{ap, _∙_}
 use Prim.Native.Nat.{ℕ}
 use lib.Dec.{leb}
-use Rattle.rollup.proofs.FitLaws.{Lists, lists-yes, lists-no, valid-by, never, said-yes, said-no}
+use Rattle.wire.proofs.BoolLaws.{said-yes, said-no}
+use Rattle.rollup.proofs.FitLaws.{Lists, lists-yes, lists-no, valid-by, never}
 use borrow.Author.Needs.{needs}
 use Rattle.rollup.proofs.fitting.lists_fit.Statement.{statement}
 use Rattle.rollup.proofs.fitting.lists_fit.Tie as tie

@@ -1,7 +1,8 @@
 -- One range after the other.
 use mathlib.Core.Path.{sym, _∙_}
+use Rattle.wire.proofs.BoolLaws.{said-yes, said-no}
 use Rattle.rollup.specs.Accumulator.{sparseRange}
-use Rattle.rollup.proofs.FitLaws.{yes, nay, said-yes, said-no}
+use Rattle.rollup.proofs.FitLaws.{yes, nay}
 use borrow.Author.Needs.{needs}
 use Rattle.rollup.proofs.fitting.ranges_fit.Statement.{statement}
 use Rattle.rollup.proofs.fitting.ranges_fit.Tie as tie

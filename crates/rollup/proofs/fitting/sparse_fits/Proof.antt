@@ -2,7 +2,8 @@
 use mathlib.Core.Path.{sym, _∙_}
 use lib.ListN.{length}
 use lib.Seq.{length-take-le}
-use Rattle.rollup.proofs.FitLaws.{said-yes, said-no, ranges-pair, counts-of, asked-ranges, asked-counts, asked-lists}
+use Rattle.wire.proofs.BoolLaws.{said-yes, said-no}
+use Rattle.rollup.proofs.FitLaws.{ranges-pair, counts-of, asked-ranges, asked-counts, asked-lists}
 use borrow.Author.Needs.{needs}
 use Rattle.rollup.proofs.fitting.sparse_fits.Statement.{statement}
 use Rattle.rollup.proofs.fitting.sparse_fits.Tie as tie

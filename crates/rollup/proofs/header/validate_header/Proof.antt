@@ -2,8 +2,9 @@
 use mathlib.Core.Path.{sym, _∙_}
 use borrow.Author.Needs.{needs}
 use denote.Ref.{now}
+use Rattle.wire.proofs.BoolLaws.{said-yes, said-no}
 use Rattle.wire.specs.State.{stateOf}
-use Rattle.rollup.proofs.JudgeLaws.{said-no, said-yes, header-structure, header-14, header-0}
+use Rattle.rollup.proofs.JudgeLaws.{header-structure, header-14, header-0}
 use Rattle.rollup.proofs.header.validate_header.Statement.{statement}
 use Rattle.rollup.proofs.header.validate_header.Tie as tie
 

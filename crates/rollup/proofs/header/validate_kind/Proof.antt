@@ -1,7 +1,8 @@
 -- Each return is the definition's answer where the questions before it are passed and this one is not.
 use borrow.Author.Needs.{needs}
+use Rattle.wire.proofs.BoolLaws.{said-yes, said-no}
 use Rattle.wire.specs.State.{stateOf}
-use Rattle.rollup.proofs.JudgeLaws.{kind-7, kind-8, kind-9, kind-0, said-no, said-yes}
+use Rattle.rollup.proofs.JudgeLaws.{kind-7, kind-8, kind-9, kind-0}
 use Rattle.rollup.proofs.header.validate_kind.Statement.{statement}
 use Rattle.rollup.proofs.header.validate_kind.Tie as tie
 

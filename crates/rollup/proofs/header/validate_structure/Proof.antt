@@ -2,9 +2,10 @@
 use mathlib.Core.Path.{_≡_, sym, _∙_}
 use borrow.Author.Needs.{needs}
 use denote.Ref.{now}
+use Rattle.wire.proofs.BoolLaws.{said-yes, said-no}
 use Rattle.wire.specs.State.{State, stateOf}
 use Rattle.rollup.specs.Judging.{structureAsked}
-use Rattle.rollup.proofs.JudgeLaws.{said-no, said-yes, go, stop, normal-high, kind-no, kind-yes, from10, from11, from12, from13, pair-unasked, pair-no, pair-yes}
+use Rattle.rollup.proofs.JudgeLaws.{go, stop, normal-high, kind-no, kind-yes, from10, from11, from12, from13, pair-unasked, pair-no, pair-yes}
 use Rattle.rollup.proofs.header.validate_structure.Statement.{statement}
 use Rattle.rollup.proofs.header.validate_structure.Tie as tie
 

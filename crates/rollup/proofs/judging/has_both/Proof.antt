@@ -1,7 +1,8 @@
 -- The presence of field 6 is the second half of the definition's test.
 use mathlib.Core.Path.{sym, _∙_}
 use borrow.Author.Needs.{needs}
-use Rattle.rollup.proofs.JudgeLaws.{said-no, said-yes, both-no, both-yes, has-field}
+use Rattle.wire.proofs.BoolLaws.{said-yes, said-no}
+use Rattle.rollup.proofs.JudgeLaws.{both-no, both-yes, has-field}
 use Rattle.rollup.proofs.judging.has_both.Statement.{statement}
 use Rattle.rollup.proofs.judging.has_both.Tie as tie
 

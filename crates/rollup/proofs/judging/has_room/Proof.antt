@@ -6,10 +6,11 @@ use mathlib.Core.List.{List}
 use lib.ListN.{length}
 use borrow.Author.Needs.{needs}
 use denote.Ref.{now}
+use Rattle.wire.proofs.BoolLaws.{said-yes, said-no}
 use Rattle.wire.specs.State.{State, stateOf}
 use Rattle.rollup.specs.Accumulator.{Mem, mem}
 use Rattle.rollup.specs.Adding.{wantedCells, hasRoom}
-use Rattle.rollup.proofs.JudgeLaws.{said-no, said-yes, wanted-high, cellsIn, registers-no, registers-yes, cells-none, cells-some, sparse-no, pending-no, pending-yes}
+use Rattle.rollup.proofs.JudgeLaws.{wanted-high, cellsIn, registers-no, registers-yes, cells-none, cells-some, sparse-no, pending-no, pending-yes}
 use Rattle.rollup.proofs.judging.has_room.Statement.{statement}
 use Rattle.rollup.proofs.judging.has_room.Tie as tie
 

@@ -1,7 +1,8 @@
 -- Each return is the definition's answer where the questions before it are passed and this one is not.
 use borrow.Author.Needs.{needs}
 use denote.Ref.{now}
-use Rattle.rollup.proofs.JudgeLaws.{said-no, said-yes, fields-header, fields-15, fields-16, fields-0}
+use Rattle.wire.proofs.BoolLaws.{said-yes, said-no}
+use Rattle.rollup.proofs.JudgeLaws.{fields-header, fields-15, fields-16, fields-0}
 use Rattle.rollup.proofs.judging.judge_fields.Statement.{statement}
 use Rattle.rollup.proofs.judging.judge_fields.Tie as tie
 

@@ -1,7 +1,8 @@
 -- Before the first state there is one mask; after it the masks meet where a bit is common.
 use borrow.Author.Needs.{needs}
+use Rattle.wire.proofs.BoolLaws.{said-yes, said-no}
 use Rattle.wire.specs.State.{stateOf}
-use Rattle.rollup.proofs.JudgeLaws.{said-no, said-yes, masks-none, masks-and}
+use Rattle.rollup.proofs.JudgeLaws.{masks-none, masks-and}
 use Rattle.rollup.proofs.judging.masks_meet.Statement.{statement}
 use Rattle.rollup.proofs.judging.masks_meet.Tie as tie
 

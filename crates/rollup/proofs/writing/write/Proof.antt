@@ -2,8 +2,8 @@
 use Prim.Native.Nat.{ℕ}
 use lib.ListN.{length}
 use denote.Ref.{now}
+use Rattle.wire.proofs.BoolLaws.{said-yes, said-no}
 use Rattle.rollup.specs.Accumulator.{Mem, mem}
-use Rattle.rollup.proofs.FitLaws.{said-yes, said-no}
 use Rattle.rollup.proofs.WriteLaws.{write-unfit, refused-by}
 use borrow.Author.Needs.{needs}
 use Rattle.rollup.proofs.writing.write.Statement.{statement}
