@@ -436,6 +436,12 @@ fn chains(made: &mut Made) {
     for n in 0..one.len() + 4 {
         made.batch(&put(&one, 0, n));
     }
+    made.all.remark("The first index is below 4, and a whole record stands there: the first index is part of it");
+    for n in 1..4 {
+        made.broken(&[&word(n)[..], &[0; 12]].concat(), 0);
+        made.broken(&[&word(n)[..n], &record(0, &a())].concat(), 0);
+        made.broken(&[&word(n)[..n], &record(40, &a()), &[0; 20]].concat(), 0);
+    }
     made.all.remark("The first index: 0 with records behind it; that of the second record; numbers with high bytes");
     assert_eq!(made.batch(&put(&three, 0, 0)).answers, []);
     assert_eq!(made.batch(&put(&three, 0, second)).answers, [0, 0]);
