@@ -48,7 +48,7 @@ wordsBytes (suc n) l = cond (eqb (length l) 0) (some []) (joined (wordBytes (tak
 abbrev pub lineBytes : List ℕ → Option (List ℕ)
 lineBytes line = wordsBytes (length line) line
 
--- These bytes stand behind `done` at the front, which has no more than that; or they are none, or too many for the buffer.
+-- The front that is counted is `done` and these bytes behind it; or there are none, or together they are too many for the buffer.
 abbrev pub Expands : List ℕ → Option (List ℕ) → List ℕ → Bytes → List ℕ → Type 0
 Expands done x out (Count n) after = (onto done x ≡ some (take n after)) × Counts n after
 Expands done x out Other after = (l : List ℕ) → onto done x ≡ some l → length out < length l
