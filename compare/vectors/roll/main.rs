@@ -380,7 +380,7 @@ fn examples(made: &mut Made) {
     let rolled = made.batch(&b1);
     assert_eq!(rolled.text, "1 0\n2 0\n10 15 4 2\n087010041802200882070c1002180a200f320421e28004");
     assert_eq!(b1, chain(&[a(), a()]));
-    made.all.remark("The same with words of several bytes that are repeated: a zero index is four bytes, A's length and A stand there twice");
+    made.all.remark("The same bytes in other words; and pieces of several bytes that stand there once, several times and not at all");
     made.said("04 00*3 23 00*3 17000000 08701002180220088207 0c1002180a200f 320421e28004 00*1 0000 00 17 0000*1 00 087010021802 20088207 0c10 02180a200f 32 0421e28004", &b1);
     made.said("00*4", &[0; 4]);
     made.said("0000*2", &[0; 4]);
