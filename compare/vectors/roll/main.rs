@@ -123,6 +123,11 @@ fn word_at(batch: &[u8], at: usize) -> u64 {
     u64::from(u32::from_le_bytes(batch[at..at + 4].try_into().expect("four bytes")))
 }
 
+/// Whether what the original writes has registers.
+fn writes_registers(rust: &Accumulator) -> bool {
+    Fields::parse(&rust.serialize().expect("a started roll-up")).expect("a state").data.is_some()
+}
+
 impl Rolled {
     fn line(&mut self, ordinal: usize, answer: u8) {
         self.text += &format!("{ordinal} {answer}\n");
@@ -196,8 +201,10 @@ impl Rolled {
             (21, Vec::new())
         } else if x.form == SPARSE && x.pending.is_empty() && original::encode_sparse(&x.sparse).len() >= limit(x.precision) {
             // With values waiting, kept bytes + 5 x waiting is below L, and the written length is no more.
+            assert!(writes_registers(rust), "the sketch writes registers where 22 is expected");
             (22, Vec::new())
         } else {
+            assert_eq!(writes_registers(rust), x.form == DENSE);
             (0, rust.serialize().expect("a started roll-up"))
         };
         assert!(self.written.1.len() <= OUTPUT && x.sparse.len() + x.pending.len() <= CELLS, "23 and the writer's 17 do not come up");
