@@ -107,3 +107,17 @@ impl Accumulator {
         Ok(())
     }
 }
+
+impl Accumulator {
+    /// The registers; of a list those that its values set in fresh ones, by the original's own `set_register`.
+    pub fn probe_registers(&self) -> Vec<u8> {
+        if self.dense || !self.started {
+            return self.registers.clone();
+        }
+        let mut registers = vec![0; 1 << self.precision];
+        for v in self.sparse.iter().chain(&self.pending) {
+            set_register(&mut registers, self.encoding(), *v);
+        }
+        registers
+    }
+}

@@ -78,7 +78,12 @@ impl Cases {
 
     /// A case that is counted as one of a class.
     pub fn counted(&mut self, kind: &str, operands: &str, answer: &str, class: String) {
-        self.cases += format!("{kind} {operands}").trim_end();
+        self.line(format!("{kind} {operands}").trim_end(), answer, class);
+    }
+
+    /// The same, as the line that it is.
+    pub fn line(&mut self, line: &str, answer: &str, class: String) {
+        self.cases += line;
         self.cases += "\n";
         self.answers += answer;
         self.answers += "\n";
