@@ -1,11 +1,14 @@
 -- Adding many states: the walk so far goes on with any run, over the states so far; what is left of the ends completes them.
-use Prim.Native.Nat.{ℕ, zero, suc, _+_, _-_, _<_, _≤_}
+use Prim.Native.Nat.{ℕ, suc, _+_, _-_, _<_, _≤_, min}
 use mathlib.Core.Path.{_≡_, refl, sym, ap, ap₂, _∙_, subst}
 use mathlib.Core.List.{List, [], _∷_, _++_, append-assoc, append-nil}
-use mathlib.Core.Bool.{true}
+use mathlib.Core.Bool.{Bool, true, false, _&&_, true≢false}
+use mathlib.Core.Logic.{⊎-elim}
+use native.Mathlib.Nat.{min-eq-left, min-eq-right, min-le-right}
 use native.Mathlib.Omega.{arith}
 use lib.ListN.{length, getD, take, drop, set, length-set, length-append, length-take, length-drop, drop-of-length-le}
 use lib.Seq.{take-all, take-suc-set, drop-cons, drop-set-lt, drop-drop, length-take-le}
+use Rattle.wire.proofs.VarintLaws.{side}
 use Rattle.rollup.specs.declared.accumulator.Accumulator.{Accumulator}
 use Rattle.rollup.specs.declared.adding.Added.{Added}
 use Rattle.rollup.specs.Accumulator.{Mem, fits}
@@ -14,7 +17,9 @@ use Rattle.rollup.specs.Calls.{Call, added, Run, adding}
 use Rattle.rollup.proofs.ViewLaws.{add-keeps}
 use Rattle.batch.specs.Batch.{addedAll}
 use Rattle.batch.proofs.ChainLaws.{added-last, same-cells}
-use Rattle.capi.specs.Folds.{between, splits, FoldPre, FoldedPost}
+use Rattle.capi.specs.Heads.{isHead, headIn, withHead}
+use Rattle.capi.specs.Folds.{between, splits, FoldPre, FoldedPost, FoldRowPost}
+use Rattle.capi.proofs.CallLaws.{Found}
 
 -- ---- the bytes between two ends
 
@@ -142,3 +147,53 @@ module _ (a : Accumulator) (m : Mem) (room : ℕ) (bytes ends before : List ℕ)
         cells = g .cells;
         free = g .free;
       }
+
+-- ---- of a head that is a row
+
+module _ (row : List ℕ) (m : Mem) (room : ℕ) (bytes ends answers : List ℕ) where
+  pub fold-refused : isHead row && fits (headIn row) m ≡ false → FoldRowPost row m room bytes ends answers 1 row m answers
+  fold-refused e =
+      record {
+        refused = λ (f : isHead row && fits (headIn row) m ≡ false). (refl, refl, refl, refl);
+        folded = λ (f : isHead row && fits (headIn row) m ≡ true). absurd (true≢false (sym f ∙ e));
+      }
+
+  pub fold-missing : isHead row ≡ false → FoldRowPost row m room bytes ends answers 1 row m answers
+  fold-missing e = fold-refused (ap (λ (t : Bool). t && fits (headIn row) m) e)
+
+  module _ (a : Accumulator) (x : Found row a) where
+    fits-row : (t : Bool) → fits a m ≡ t → isHead row && fits (headIn row) m ≡ t
+    fits-row t e =
+        ap (λ (b : Bool). b && fits (headIn row) m) (x .yes-head) ∙ ap (λ (h : Accumulator). fits h m) (sym (x .is-head)) ∙ e
+
+    pub fold-unfit : fits a m ≡ false → FoldRowPost row m room bytes ends answers 1 row m answers
+    fold-unfit e = fold-refused (fits-row false e)
+
+    -- As many ends as there are cells.
+    pub fewer-ends : (k : ℕ) → k ≡ min (length ends) (length answers) → take k ends ≡ take (length answers) ends
+    fewer-ends k e =
+        ⊎-elim
+        (λ (h : length ends < length answers).
+        ap (λ (i : ℕ). take i ends) (e ∙ min-eq-left (let g : length ends ≤ length answers = omega arith in g))
+        ∙ take-all (length ends) ends (omega arith)
+        ∙ sym (take-all (length answers) ends (let g : length ends ≤ length answers = omega arith in g)))
+        (λ (h : length answers ≤ length ends). ap (λ (i : ℕ). take i ends) (e ∙ min-eq-right h)) (side (length ends) (length answers))
+
+    pub fold-pre : (k : ℕ) → fits a m ≡ true → k ≡ min (length ends) (length answers) → FoldPre a m (take k ends) answers
+    fold-pre k f e = record { fit = f; room = omega (arith, length-take k ends, e, min-le-right (length ends) (length answers)) }
+
+    pub fold-found : (k : ℕ) (h : Accumulator) (n : Mem) (left after : List ℕ) → fits a m ≡ true → k ≡ min (length ends) (length answers)
+        → FoldedPost a m room bytes (take k ends) answers h n left → after ≡ withHead h row → FoldRowPost row m room bytes ends answers 0 after n left
+    fold-found k h n left after f e post put =
+        record {
+          refused = λ (g : isHead row && fits (headIn row) m ≡ false). absurd (true≢false (sym (fits-row true f) ∙ g));
+          folded = λ (g : isHead row && fits (headIn row) m ≡ true).
+              record {
+                none = refl;
+                head = h;
+                post =
+                    subst (λ (l : List ℕ). FoldedPost (headIn row) m room bytes l answers h n left) (fewer-ends k e)
+                    (subst (λ (b : Accumulator). FoldedPost b m room bytes (take k ends) answers h n left) (x .is-head) post);
+                row-left = put;
+              };
+        }

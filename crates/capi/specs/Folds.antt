@@ -1,7 +1,7 @@
 -- Many states in one slice, with their ends: what `filmoed_fold` promises.
 use mathlib.Core.Path.{_≡_}
 use mathlib.Core.List.{List, [], _∷_}
-use mathlib.Core.Bool.{Bool, true, false, _&&_}
+use mathlib.Core.Bool.{true, false, _&&_}
 use Prim.Native.Nat.{ℕ, _-_, _≤_}
 use lib.ListN.{length, take, drop}
 use Rattle.rollup.specs.declared.accumulator.Accumulator.{Accumulator}
@@ -31,3 +31,15 @@ pub record FoldedPost (a : Accumulator) (m : Mem) (room : ℕ) (bytes ends answe
 pub record FoldPre (a : Accumulator) (m : Mem) (ends answers : List ℕ) : Type 0 where
   pub fit : fits a m ≡ true
   pub room : length ends ≤ length answers
+
+-- Of a head that is a row: question 1 is asked of it once, and where it is answered with no nothing is changed. There are as many states as there are
+-- ends and cells.
+pub record FoldedRow (row : List ℕ) (m : Mem) (room : ℕ) (bytes ends answers : List ℕ) (answer : ℕ) (after : List ℕ) (n : Mem) (left : List ℕ) : Type 0 where
+  pub none : answer ≡ 0
+  pub head : Accumulator
+  pub post : FoldedPost (headIn row) m room bytes (take (length answers) ends) answers head n left
+  pub row-left : after ≡ withHead head row
+
+pub record FoldRowPost (row : List ℕ) (m : Mem) (room : ℕ) (bytes ends answers : List ℕ) (answer : ℕ) (after : List ℕ) (n : Mem) (left : List ℕ) : Type 0 where
+  pub refused : isHead row && fits (headIn row) m ≡ false → (answer ≡ 1) × (after ≡ row) × (n ≡ m) × (left ≡ answers)
+  pub folded : isHead row && fits (headIn row) m ≡ true → FoldedRow row m room bytes ends answers answer after n left

@@ -1,13 +1,17 @@
 // The exported functions. A caller lends all memory; slices must not overlap. An answer is document 01's number: 0, or the first question that was
 // answered with no.
 ghost use mathlib.Core.Path.{_≡_};
+ghost use Prim.Native.Nat.{min};
 ghost use lib.ListN.{length, set};
 ghost use Rattle.rollup.specs.Accumulator.{mem};
 ghost use Rattle.capi.specs.Calls.{AddRowPost, WriteRowPost, FreshPost};
+ghost use Rattle.capi.specs.Folds.{FoldRowPost};
+use crate::folding;
 use crate::heads;
 use crate::heads::Head;
 use rollup::accumulator::Accumulator;
 use rollup::adding;
+use rollup::fitting;
 use rollup::writing;
 
 // Puts a fresh head into the row; 1 where it has no ten cells.
@@ -73,4 +77,47 @@ pub extern "C" fn filmoed_write(
     let r = writing::write(a, registers, sparse, pending, scratch, out);
     put_first(len, r.len as u64);
     r.answer
+}
+
+// The smaller of two numbers.
+fn smaller(x: usize, y: usize) -> usize
+    ensures { λ r. ⌜ r ≡ min x y ⌝ }
+{
+    if x < y { x } else { y }
+}
+
+// Adds many states: `states` has them one behind the other, `ends` where each one ends, and `answers` a cell for each answer. Question 1 is asked once.
+#[no_mangle]
+pub extern "C" fn filmoed_fold(
+    head: &mut [u64],
+    registers: &mut [u8],
+    sparse: &mut [u32],
+    pending: &mut [u32],
+    scratch: &mut [u32],
+    states: &[u8],
+    ends: &[u64],
+    answers: &mut [u8],
+) -> u8
+    ensures { λ r. ⌜ FoldRowPost (now (head .entry)) (mem (now (registers .entry)) (now (sparse .entry)) (now (pending .entry))) (length (now (scratch .entry))) (now (states .entry)) (now (ends .entry)) (now (answers .entry)) r (now (head .exit)) (mem (now (registers .exit)) (now (sparse .exit)) (now (pending .exit))) (now (answers .exit)) ⌝ }
+{
+    let h = heads::read_head(&head[..]);
+    let Head::Is(a) = h else {
+        return 1;
+    };
+    if !fitting::fits(a, &registers[..], &sparse[..], &pending[..]) {
+        return 1;
+    }
+    let k = smaller(ends.len(), answers.len());
+    let r = folding::fold_states(
+        a,
+        registers,
+        sparse,
+        pending,
+        scratch,
+        states,
+        &ends[..k],
+        answers,
+    );
+    heads::put_head(head, r);
+    0
 }
