@@ -3,7 +3,7 @@
 use Prim.Native.Nat.{ℕ, zero, suc, _+_, _-_, _*_, _^_, _<_, _≤_}
 use mathlib.Core.Path.{_≡_, refl, sym, ap, _∙_, subst}
 use mathlib.Core.List.{List, [], _∷_, _++_, append-assoc, append-nil}
-use mathlib.Core.Bool.{Bool, true, false, cond, _&&_}
+use mathlib.Core.Bool.{Bool, true, false, cond, _&&_, true≢false}
 use native.Mathlib.Omega.{arith}
 use lib.Dec.{ltb, leb, eqb}
 use lib.ListN.{length, getD, take, drop, set, length-set, length-append}
@@ -117,6 +117,50 @@ module _ (b : List ℕ) (before i : ℕ) (within : before < length b) (index : i
             ap (λ (t : Bool). cond t (ends 0) (cond (isRecord b before i) next (ends 25))) (ne-eqb i 0 index)
             ∙ ap (λ (t : Bool). cond t next (ends 25)) e;
       }
+
+-- A chain has no more records than its bound.
+chain-few : (n : ℕ) (b : List ℕ) (before i : ℕ) → length (chainFrom n b before i .states) ≤ n
+unfolding chainFrom
+chain-few zero b before i = omega arith
+chain-few (suc n) b before i = go (eqb i 0) (isRecord b before i) (chain-few n b i (nextAt b i))
+  where
+    go : (x y : Bool) → length (chainFrom n b i (nextAt b i) .states) ≤ n
+        → length (cond x (ends 0) (cond y (onto (stateAt b i) (chainFrom n b i (nextAt b i))) (ends 25)) .states) ≤ suc n
+    go true y h = omega arith
+    go false false h = omega arith
+    go false true h = omega arith
+
+-- So 65,536 cells suffice for the answers, whatever the bytes are.
+pub never-full : (b : List ℕ) (cells : ℕ) → 65536 ≤ cells → endingFor (chainOf b) cells ≡ Full → ⊥
+unfolding chainOf
+never-full b cells h e = go (isBatch b) refl
+  where
+    whole : Ending → Bool
+    whole Whole = true
+    whole (Refused n) = true
+    whole Full = false
+
+    other : (t : Bool) (n : ℕ) → whole (cond t Whole (Refused n)) ≡ true
+    other true n = refl
+    other false n = refl
+
+    few : length (chainOf b .states) ≤ cells → ⊥
+    few l =
+        true≢false
+        (sym (other (eqb (chainOf b .ending) 0) (chainOf b .ending))
+        ∙ ap whole
+        (sym (ap (λ (t : Bool). cond t (cond (eqb (chainOf b .ending) 0) Whole (Refused (chainOf b .ending))) Full) (le-leb (length (chainOf b .states)) cells l))
+        ∙ e))
+
+    go : (t : Bool) → isBatch b ≡ t → ⊥
+    go true f =
+        let all = chainFrom (length b) b 0 (wordAt b 0) in
+        let same : chainOf b ≡ all = ap (λ (t : Bool). cond t all (ends 24)) f in
+        few (omega (arith, ap (λ (c : Chain). length (c .states)) same, chain-few (length b) b 0 (wordAt b 0), batch-size b f .1))
+    go false f =
+        let all = chainFrom (length b) b 0 (wordAt b 0) in
+        let same : chainOf b ≡ ends 24 = ap (λ (t : Bool). cond t all (ends 24)) f in
+        few (omega (arith, ap (λ (c : Chain). length (c .states)) same))
 
 -- ---- the calls
 

@@ -68,7 +68,8 @@ fn print_answer(ordinal: usize, answer: u8) -> bool {
     io::write_all(STDOUT_FILENO, &text[..n])
 }
 
-// The end of a chain after so many records: nothing where it ends with an index of zero. `Full` cannot come up: a batch has fewer records than bytes.
+// The end of a chain after so many records: nothing where it ends with an index of zero. `Full` cannot come up with 65,536 cells (`never-full` of
+// `batch`).
 fn print_ending(ending: Ending, records: usize) -> bool
     requires { ⌜ records ≤ 65536 ⌝ }
 {
