@@ -1,5 +1,5 @@
 -- Laws of heads in a row: what makes a row of numbers a head, by its parts, and a row after a head was put into it.
-use Prim.Native.Nat.{ℕ, zero, suc, _^_, _<_, _≤_}
+use Prim.Native.Nat.{ℕ, _^_, _<_, _≤_}
 use mathlib.Core.Path.{_≡_, refl, sym, ap, _∙_}
 use mathlib.Core.List.{List, [], _∷_}
 use mathlib.Core.Bool.{Bool, true, false, cond, _&&_}
@@ -11,9 +11,8 @@ use Rattle.wire.proofs.BoolLaws.{both, both-true}
 use Rattle.rollup.specs.declared.accumulator.Form.{Form}
 use Rattle.rollup.specs.declared.accumulator.Form.the-variants.{Unstarted, Sparse, Dense}
 use Rattle.rollup.specs.declared.accumulator.Accumulator.{Accumulator}
-use Rattle.capi.specs.declared.heads.Head.{Head}
 use Rattle.capi.specs.declared.heads.Head.the-variants.{Is, Unknown}
-use Rattle.capi.specs.Heads.{formNumber, formOf, numbersOf, isHead, headIn, withHead, readHead}
+use Rattle.capi.specs.Heads.{formNumber, formOf, isHead, headIn, withHead, readHead}
 
 -- ---- forms
 

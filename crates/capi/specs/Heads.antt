@@ -1,7 +1,5 @@
 -- The head of a roll-up as ten numbers in a row, for callers in other languages.
-use mathlib.Core.Path.{_≡_}
 use mathlib.Core.List.{List, [], _∷_, _++_}
-use mathlib.Core.Option.{Option, none, some}
 use mathlib.Core.Bool.{Bool, cond, _&&_}
 use Prim.Native.Nat.{ℕ, _^_}
 use lib.Dec.{ltb, leb, eqb}

@@ -1,5 +1,5 @@
 -- `put_word` meets its contract: the number is read behind the star, and the bytes before it are put so many times.
-use mathlib.Core.Path.{_≡_, sym, ap, _∙_, subst}
+use mathlib.Core.Path.{sym, ap, _∙_, subst}
 use mathlib.Core.List.{List}
 use mathlib.Core.Option.{Option}
 use Prim.Native.Nat.{ℕ}

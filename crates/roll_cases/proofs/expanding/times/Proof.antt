@@ -1,5 +1,5 @@
 -- `times` meets its contract: nothing is left of a word with no star, and a number behind it otherwise.
-use mathlib.Core.Path.{_≡_, sym, ap, _∙_}
+use mathlib.Core.Path.{sym, ap, _∙_}
 use mathlib.Core.List.{List}
 use Prim.Native.Nat.{ℕ, _+_}
 use native.Mathlib.Omega.{arith}
