@@ -4,7 +4,6 @@ use Prim.Native.Nat.{ℕ, zero, suc, _%_, _^_, _<_, _≤_}
 use mathlib.Core.Path.{_≡_, subst}
 use mathlib.Core.List.{List, [], _∷_}
 use mathlib.Core.Bool.{Bool, true, false, cond}
-use mathlib.Core.Option.{some}
 use native.Mathlib.Nat.{mod-lt}
 use native.Mathlib.Omega.{arith}
 use lib.ListN.{length, take, drop, length-take, length-drop}
@@ -27,10 +26,13 @@ reads-then : {A B : Type 0} (good : A → Type 0) (fine : B → Type 0) (n k : �
 reads-then good fine n k (got a l) next h f = f a l (h .0) (h .1)
 reads-then good fine n k (refused m) next h f = h
 
--- A choice, each way.
+-- A choice, whichever it is.
+pick : {A : Type 0} (good : A → Type 0) (b : Bool) (x y : A) → good x → good y → good (cond b x y)
+pick good true x y f g = f
+pick good false x y f g = g
+
 either : {A : Type 0} (good : A → Type 0) (n : ℕ) (b : Bool) (x y : Read A) → Reads good n x → Reads good n y → Reads good n (cond b x y)
-either good n true x y f g = f
-either good n false x y f g = g
+either good n b x y f g = pick (Reads good n) b x y f g
 
 varint-reads : (k : ℕ) (l : List ℕ) → Reads Anything (length l) (varintOf k l)
 unfolding varintOf
@@ -118,6 +120,9 @@ module _ {A : Type 0} (field : ℕ → List ℕ → A → Read A) (good : A → 
   unfolding messageOf
   message-keeps l a h g = fields-keep (length l) l a h g
 
+low : (v : ℕ) → v % 2 ^ 32 < 2 ^ 32
+low v = mod-lt v (let g : 0 < 2 ^ 32 = omega arith in g)
+
 -- What is to be known of a nested message that was read of no more than n bytes.
 record Bounded (n : ℕ) (h : HllState) : Type 0 where
   list : length (bytesOrNone (h .sparseData)) ≤ n
@@ -125,29 +130,15 @@ record Bounded (n : ℕ) (h : HllState) : Type 0 where
   size : h .sparseSize < 2 ^ 32
 
 with-number : (n t v : ℕ) (h : HllState) → Bounded n h → Bounded n (withHllNumber t v h)
-with-number n t v h b = go (eqb t (tag 2 VARINT)) (eqb t (tag 3 VARINT))
-  where
-    go : (x y : Bool)
-        → Bounded n
-        (cond x
-        (record { sparseSize = v % 2 ^ 32; precision = h .precision; sparsePrecision = h .sparsePrecision; «data» = h .«data»; sparseData = h .sparseData })
-        (cond y
-        (record { sparseSize = h .sparseSize; precision = v % 2 ^ 32; sparsePrecision = h .sparsePrecision; «data» = h .«data»; sparseData = h .sparseData })
-        (record { sparseSize = h .sparseSize; precision = h .precision; sparsePrecision = v % 2 ^ 32; «data» = h .«data»; sparseData = h .sparseData })))
-    go true y = record { list = b .list; sparse = b .sparse; size = mod-lt v (let g : 0 < 2 ^ 32 = omega arith in g) }
-    go false true = record { list = b .list; sparse = b .sparse; size = b .size }
-    go false false = record { list = b .list; sparse = mod-lt v (let g : 0 < 2 ^ 32 = omega arith in g); size = b .size }
+with-number n t v h b =
+    pick (Bounded n) (eqb t (tag 2 VARINT)) _ _ (record { list = b .list; sparse = b .sparse; size = low v })
+    (pick (Bounded n) (eqb t (tag 3 VARINT)) _ _ (record { list = b .list; sparse = b .sparse; size = b .size })
+    (record { list = b .list; sparse = low v; size = b .size }))
 
 with-bytes : (n t : ℕ) (d : List ℕ) (h : HllState) → length d ≤ n → Bounded n h → Bounded n (withHllBytes t d h)
-with-bytes n t d h e b = go (eqb t (tag 5 LEN))
-  where
-    go : (x : Bool)
-        → Bounded n
-        (cond x
-        (record { sparseSize = h .sparseSize; precision = h .precision; sparsePrecision = h .sparsePrecision; «data» = some d; sparseData = h .sparseData })
-        (record { sparseSize = h .sparseSize; precision = h .precision; sparsePrecision = h .sparsePrecision; «data» = h .«data»; sparseData = some d }))
-    go true = record { list = b .list; sparse = b .sparse; size = b .size }
-    go false = record { list = e; sparse = b .sparse; size = b .size }
+with-bytes n t d h e b =
+    pick (Bounded n) (eqb t (tag 5 LEN)) _ _ (record { list = b .list; sparse = b .sparse; size = b .size })
+    (record { list = e; sparse = b .sparse; size = b .size })
 
 other-keeps : {A : Type 0} (good : A → Type 0) (n t : ℕ) (l : List ℕ) (a : A) → length l ≤ n → good a → Reads good n (otherOf t l a)
 other-keeps good n t l a h g =
@@ -172,21 +163,11 @@ record StateBounded (n : ℕ) (st : State) : Type 0 where
   kind : st .valueType < 2 ^ 32
 
 with-outer : (n t v : ℕ) (st : State) → v < 2 ^ 64 → StateBounded n st → StateBounded n (withNumber t v st)
-with-outer n t v st low b = go (eqb t (tag 1 VARINT)) (eqb t (tag 2 VARINT)) (eqb t (tag 3 VARINT))
-  where
-    go : (x y z : Bool)
-        → StateBounded n
-        (cond x
-        (record { aggregatorType = v % 2 ^ 32; numValues = st .numValues; encodingVersion = st .encodingVersion; valueType = st .valueType; hll = st .hll })
-        (cond y
-        (record { aggregatorType = st .aggregatorType; numValues = v; encodingVersion = st .encodingVersion; valueType = st .valueType; hll = st .hll })
-        (cond z
-        (record { aggregatorType = st .aggregatorType; numValues = st .numValues; encodingVersion = v % 2 ^ 32; valueType = st .valueType; hll = st .hll })
-        (record { aggregatorType = st .aggregatorType; numValues = st .numValues; encodingVersion = st .encodingVersion; valueType = v % 2 ^ 32; hll = st .hll }))))
-    go true y z = record { nested = b .nested; count = b .count; kind = b .kind }
-    go false true z = record { nested = b .nested; count = low; kind = b .kind }
-    go false false true = record { nested = b .nested; count = b .count; kind = b .kind }
-    go false false false = record { nested = b .nested; count = b .count; kind = mod-lt v (let g : 0 < 2 ^ 32 = omega arith in g) }
+with-outer n t v st h b =
+    pick (StateBounded n) (eqb t (tag 1 VARINT)) _ _ (record { nested = b .nested; count = b .count; kind = b .kind })
+    (pick (StateBounded n) (eqb t (tag 2 VARINT)) _ _ (record { nested = b .nested; count = h; kind = b .kind })
+    (pick (StateBounded n) (eqb t (tag 3 VARINT)) _ _ (record { nested = b .nested; count = b .count; kind = b .kind })
+    (record { nested = b .nested; count = b .count; kind = low v })))
 
 outer-keeps : (n t : ℕ) (l : List ℕ) (st : State) → length l ≤ n → StateBounded n st → Reads (StateBounded n) n (outerField t l st)
 unfolding outerField readHll
