@@ -466,6 +466,7 @@ impl Gen {
                     let states = (0..1 + self.below(8)).map(|_| self.state(pair, elsewhere, most)).collect();
                     calls.push(self.fold(states));
                 }
+                2 if self.once(3) => calls.push(Call::Near),
                 2 => calls.push(Call::Write(self.space(room))),
                 _ => calls.push(Call::Add(self.state(pair, elsewhere, most))),
             }
@@ -664,6 +665,25 @@ impl Gen {
         let p = 13 + self.below(4) as i32;
         let pair = self.pair_of(p);
         let mut script = self.lent(p, 9000);
+        if p > 13 && self.once(2) {
+            // Just as many as may wait, one less, or one more; in one or more calls, and then a few more.
+            let mut left = 2047 + self.below(3) as usize;
+            let largest = self.one(&[2049, 1024, 700, 300]);
+            let mut sizes = vec![1];
+            while left > 0 {
+                let k = left.min(1 + self.below(largest) as usize);
+                sizes.push(k);
+                left -= k;
+            }
+            sizes.extend([1, 3]);
+            for k in sizes {
+                let mut values: Vec<u32> = (0..k).map(|_| self.value(pair, 4000)).collect();
+                values.sort_unstable();
+                script.calls.push(Call::Add(list(pair, &values).encode()));
+            }
+            script.calls.push(Call::Near);
+            return script;
+        }
         for _ in 0..10 + self.below(60) {
             let most = self.one(&[1, 60, 300, 900, 2100]);
             let mut values: Vec<u32> = (0..self.below(most) + 1).map(|_| self.value(pair, 4000)).collect();
@@ -673,7 +693,7 @@ impl Gen {
                 script.calls.push(Call::Write((1 << p) + 9000));
             }
         }
-        script.calls.push(Call::Write((1 << p) + 9000));
+        script.calls.push(Call::Near);
         script
     }
 

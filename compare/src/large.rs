@@ -69,7 +69,7 @@ pub fn run() {
                 Call::Add(values.clone()),
                 out.clone(),
             ]),
-            &[(0, 9)],
+            &[(0, 10)],
         );
         compare(
             &format!("lists of p = {p}: first, one that waits, registers onto them, written"),

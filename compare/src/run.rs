@@ -4,6 +4,7 @@ use crate::cases::{hex, text};
 use crate::lent::{Lent, Side, BYTE, CELL, NUMBER};
 use crate::model::{Head, Rollup, DENSE, SPARSE, UNSTARTED};
 use original::Fields;
+use std::borrow::Cow;
 use std::panic::{catch_unwind, AssertUnwindSafe};
 
 /// How many numbers the row of a head has; two stand behind the head.
@@ -16,6 +17,8 @@ pub enum Call {
     Fold(Vec<u8>, Vec<u64>, usize),
     /// The size of the output.
     Write(usize),
+    /// Two writes: into an output that just fits, and into one with a byte less. None where a write is refused.
+    Near,
 }
 
 /// A head that is set before the first call, and the front of its memory.
@@ -54,6 +57,7 @@ impl std::fmt::Display for Script {
                 Call::Add(state) => writeln!(f, "add {}", hex(state))?,
                 Call::Fold(states, ends, answers) => writeln!(f, "fold {} ends {ends:?} with {answers} cells", hex(states))?,
                 Call::Write(space) => writeln!(f, "write into {space}")?,
+                Call::Near => writeln!(f, "write into what just fits, and a byte less")?,
             }
         }
         Ok(())
@@ -317,11 +321,19 @@ impl Both<'_> {
 
     fn call(&mut self, call: &Call) -> Found {
         match call {
+            Call::Near => {
+                let (answer, bytes) = if self.odd.is_some() { (1, Vec::new()) } else { self.model.write(usize::MAX) };
+                if answer == 0 {
+                    self.call(&Call::Write(bytes.len()))?;
+                    self.call(&Call::Write(bytes.len() - 1))?;
+                }
+            }
             Call::Add(state) => {
                 let untouched = self.untouched();
-                let given = state.clone();
+                // A state of 2^31 bytes is not copied.
+                let given = if state.len() < 1 << 26 { Cow::Owned(state.clone()) } else { Cow::Borrowed(state) };
                 let answer = self.side.add(&given);
-                same("the state's bytes", &given, state)?;
+                same("the state's bytes", &*given, state)?;
                 let expected = self.expect(state, false)?;
                 same("answer", answer, expected)?;
                 self.is_untouched(untouched)?;
