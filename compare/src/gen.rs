@@ -568,6 +568,46 @@ impl Gen {
         script
     }
 
+    /// A list of k values into one of just 16 x k, one less or one more, that is too long for waiting.
+    fn sixteen(&mut self) -> Script {
+        let k = 1 + self.below(17) as u32;
+        let p = if k == 1 { 5 } else if k < 3 { 6 } else if k < 6 { 7 } else if k < 11 { 8 } else { 9 };
+        let pair = self.pair_of(p);
+        let mut script = self.lent(p, limit(p) as usize + 300);
+        let n = 16 * k - 1 + self.below(3) as u32;
+        let wide = self.one(&[1, 1, 3]);
+        let mut values: Vec<u32> = (0..n).map(|i| (i * wide).min((1 << pair.1) - 1)).collect();
+        if self.once(2) {
+            let at = self.below(u64::from(n) - 1) as usize;
+            values[at + 1] = values[at];
+        }
+        // Long gaps, until the field has about L bytes.
+        let most = limit(p) as usize + self.below(8) as usize;
+        let mut last = 0;
+        let mut bytes = Vec::new();
+        for (i, v) in values.iter().enumerate() {
+            let left = values.len() - i - 1;
+            let gap = u64::from(v - last);
+            last = *v;
+            if bytes.len() + left + 8 < most && self.once(2) {
+                bytes.extend(self.long(gap, 5));
+            } else {
+                put_varint(&mut bytes, gap);
+            }
+        }
+        let f = Fields { sparse_data: Some(bytes), ..list(pair, &values) };
+        script.calls.push(Call::Add(f.encode()));
+        for _ in 0..2 {
+            let mut some: Vec<u32> = (0..k)
+                .map(|_| if self.once(3) { values[self.below(values.len() as u64) as usize] } else { self.value(pair, 40) })
+                .collect();
+            some.sort_unstable();
+            script.calls.push(Call::Add(list(pair, &some).encode()));
+        }
+        script.calls.push(Call::Near);
+        script
+    }
+
     /// Precisions that need much memory.
     fn large_p(&mut self) -> Script {
         let p = if self.once(20) { 21 + self.below(2) as i32 } else { 17 + self.below(4) as i32 };
@@ -802,7 +842,8 @@ impl Gen {
         match self.below(100) {
             0..=31 => self.sequence(),
             32..=46 => self.at_the_limit(),
-            47..=55 => self.few_into_many(),
+            47..=52 => self.few_into_many(),
+            53..=55 => self.sixteen(),
             56..=69 => self.lowered(),
             70..=74 => self.each_damage(),
             75 => self.many_wait(),

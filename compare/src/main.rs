@@ -14,6 +14,7 @@ mod large;
 mod lent;
 #[path = "../original/model.rs"]
 mod model;
+mod readings;
 mod run;
 mod short;
 mod speed;
@@ -31,6 +32,7 @@ pub fn found(script: &Script, name: &str, (call, what): (usize, String)) -> ! {
 fn by_chance(seed: u64, calls: u64) {
     println!("seed {seed}, until {calls} calls");
     let mut counts = Counts::new();
+    readings::run(&mut counts);
     let mut number = 0;
     while counts.calls() < calls {
         let script = gen::Gen::new(seed, number).script();
