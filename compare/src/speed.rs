@@ -180,6 +180,28 @@ fn case(name: &str, p: i32, before: Vec<Vec<u8>>, states: Vec<Vec<u8>>) -> Case 
     Case { name: name.to_string(), before, states, registers: 1 << p, cells: 70_000 }
 }
 
+/// 16 values, of which one is new, into a list that is just short of L bytes, so that nothing waits; and how many values the list has.
+fn inserted(chance: &mut Chance, p: i32) -> (Case, usize) {
+    let pair = (p, p + 5);
+    let most = (3 << (p - 2)) - 75;
+    let mut kept = values(chance, pair, 5 << (p - 2));
+    while original::encode_sparse(&kept).len() >= most {
+        for _ in 0..1 + kept.len() / 500 {
+            kept.remove(chance.below(kept.len() as u64) as usize);
+        }
+    }
+    let states = (0..30)
+        .map(|_| {
+            let mut some: Vec<u32> = (0..15).map(|_| kept[chance.below(kept.len() as u64) as usize]).collect();
+            some.push(chance.below(1 << pair.1) as u32);
+            some.sort_unstable();
+            list(pair, &some).encode()
+        })
+        .collect();
+    let n = kept.len();
+    (case(&format!("16 values into a list of {n}, inserted"), p, vec![list(pair, &kept).encode()], states), n)
+}
+
 fn main_cases(chance: &mut Chance) -> Vec<Case> {
     let mut all = Vec::new();
     for p in [10, 15] {
@@ -197,20 +219,7 @@ fn main_cases(chance: &mut Chance) -> Vec<Case> {
         let (before, states) = (dense_states(chance, pair, 1), list_states(chance, pair, 1000, least, most));
         all.push(case(name, 15, before, states));
     }
-    // A list that is just short of L, which is 24,576 bytes, so that nothing waits: 16 values, of which one is new.
-    let mut kept = values(chance, pair, 40_000);
-    while original::encode_sparse(&kept).len() >= 24_576 - 75 {
-        kept.remove(chance.below(kept.len() as u64) as usize);
-    }
-    let states = (0..30)
-        .map(|_| {
-            let mut some: Vec<u32> = (0..15).map(|_| kept[chance.below(kept.len() as u64) as usize]).collect();
-            some.push(chance.below(1 << 20) as u32);
-            some.sort_unstable();
-            list(pair, &some).encode()
-        })
-        .collect();
-    all.push(case("16 values into a list of 24,000, inserted", 15, vec![list(pair, &kept).encode()], states));
+    all.push(inserted(chance, 15).0);
     let (before, states) = (list_states(chance, pair, 1, 4000, 4000), list_states(chance, pair, 4, 3000, 3000));
     all.push(case("lists of 3,000 values merged into a list of 4,000 and more", 15, before, states));
     let (before, states) = (dense_states(chance, (12, 17), 1), dense_states(chance, (15, 20), 32));
@@ -365,6 +374,14 @@ pub fn run() {
         })
         .collect();
     growth("two lists merged, values in each", "value", &merged);
+    let into: Vec<(Case, f64)> = (10..=16)
+        .map(|p| {
+            let (mut case, n) = inserted(&mut chance, p);
+            case.name = format!("{n}");
+            (case, 30.0)
+        })
+        .collect();
+    growth("16 values inserted, values kept", "state", &into);
     let pair = (15, 20);
     let records: Vec<(Case, f64)> = [100, 1000, 10_000, 100_000]
         .iter()
