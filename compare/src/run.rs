@@ -339,9 +339,9 @@ impl Both<'_> {
                 self.is_untouched(untouched)?;
             }
             Call::Fold(states, ends, cells) => {
-                let untouched = self.untouched();
                 let mut answers = Lent::new(*cells, BYTE);
                 let fits = self.odd.is_none() && self.model.fits();
+                let untouched = if fits { None } else { Some(self.side.clone()) };
                 let (given, given_ends) = (states.clone(), ends.clone());
                 let answer = self.side.fold(&given, &given_ends, answers.get_mut());
                 same("the states' bytes", &given, states)?;
@@ -406,7 +406,7 @@ impl Both<'_> {
         let all = before.registers.get() == side.registers.get()
             && before.sparse.get() == side.sparse.get()
             && before.pending.get() == side.pending.get();
-        if all { Ok(()) } else { Err("memory is changed though the row is no head".to_string()) }
+        if all { Ok(()) } else { Err("memory is changed though the row is no head, or a fold was refused".to_string()) }
     }
 }
 
