@@ -185,8 +185,14 @@ fn inserted(chance: &mut Chance, p: i32) -> (Case, usize) {
     let pair = (p, p + 5);
     let most = (3 << (p - 2)) - 75;
     let mut kept = values(chance, pair, 5 << (p - 2));
-    while original::encode_sparse(&kept).len() >= most {
-        for _ in 0..1 + kept.len() / 500 {
+    loop {
+        let bytes = original::encode_sparse(&kept).len();
+        if bytes < most {
+            assert!(bytes + 80 >= most + 75, "nothing waits");
+            break;
+        }
+        // One at a time in the end.
+        for _ in 0..1 + (bytes - most) / 8 {
             kept.remove(chance.below(kept.len() as u64) as usize);
         }
     }
