@@ -97,6 +97,11 @@ impl Fields {
     }
 }
 
+/// Whether `StateView::parse` reads a state: what there is to time of parsing alone.
+pub fn reads(bytes: &[u8]) -> bool {
+    proto::StateView::parse(bytes).is_ok()
+}
+
 /// The bytes of a list.
 pub fn encode_sparse(values: &[u32]) -> Vec<u8> {
     encoding::encode_sparse(values)
