@@ -2,7 +2,8 @@
 //!
 //! A [`RollUp`] owns its head and the memory that is lent with it. Answers are the numbers of README.md's table.
 
-mod c {
+/// The functions as they are exported: `bindings/c/filmoed.h` says what each asks of its caller.
+pub mod c {
     extern "C" {
         pub fn filmoed_fresh(head: *mut u64, head_len: usize) -> u8;
         pub fn filmoed_add(

@@ -1,24 +1,12 @@
 //! The Rattle side: the exported functions of `crates/capi`, and memory to lend to them. All of it is filled with a pattern, and there are cells before and
 //! behind each slice that no call may touch.
 
-mod c {
-    extern "C" {
-        pub fn filmoed_fresh(head: *mut u64, head_len: usize) -> u8;
-        pub fn filmoed_add(
-            head: *mut u64, head_len: usize, registers: *mut u8, registers_len: usize, sparse: *mut u32, sparse_len: usize, pending: *mut u32,
-            pending_len: usize, scratch: *mut u32, scratch_len: usize, state: *const u8, state_len: usize,
-        ) -> u8;
-        pub fn filmoed_fold(
-            head: *mut u64, head_len: usize, registers: *mut u8, registers_len: usize, sparse: *mut u32, sparse_len: usize, pending: *mut u32,
-            pending_len: usize, scratch: *mut u32, scratch_len: usize, states: *const u8, states_len: usize, ends: *const u64, ends_len: usize,
-            answers: *mut u8, answers_len: usize,
-        ) -> u8;
-        pub fn filmoed_write(
-            head: *const u64, head_len: usize, registers: *const u8, registers_len: usize, sparse: *const u32, sparse_len: usize, pending: *mut u32,
-            pending_len: usize, scratch: *mut u32, scratch_len: usize, out: *mut u8, out_len: usize, len: *mut u64, len_len: usize,
-        ) -> u8;
-    }
-}
+// The declarations that ship with the library are the ones that are compared.
+#[path = "../../bindings/rust/filmoed.rs"]
+#[allow(dead_code)]
+mod filmoed;
+
+use filmoed::c;
 
 /// What lent memory is filled with.
 pub const BYTE: u8 = 165;

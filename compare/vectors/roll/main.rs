@@ -4,9 +4,11 @@
 //! document gives an answer, it stands here as an expectation, and another answer stops the run.
 
 mod cases;
+mod states;
 
 use cases::{hex, mark, marked, unhex, Cases, Chance, Pair};
 use original::{Accumulator, Fields, Probe};
+use states::{damaged, dense, neither, raw, registers, some_list, some_pair, some_registers, spelled, upto};
 use std::collections::BTreeMap;
 
 const UNSTARTED: u8 = 0;
@@ -290,41 +292,9 @@ fn a() -> Vec<u8> {
     unhex("08701002180220088207 0c 1002180a200f 320421e28004")
 }
 
-/// A state with neither registers nor a list.
-fn neither((p, s): Pair) -> Fields {
-    Fields { kind: 112, num_values: 1, encoding_version: 2, value_type: 0, sparse_size: 0, precision: p, sparse_precision: s, data: None, sparse_data: None }
-}
-
-/// A state whose list has these bytes.
-fn raw(pair: Pair, size: i32, bytes: &[u8]) -> Fields {
-    Fields { sparse_size: size, sparse_data: Some(bytes.to_vec()), ..neither(pair) }
-}
-
+/// A list, written.
 fn list(pair: Pair, values: &[u32]) -> Vec<u8> {
-    assert!(values.is_sorted());
-    Fields { num_values: values.len() as i64, ..raw(pair, values.len() as i32, &original::encode_sparse(values)) }.encode()
-}
-
-fn dense(pair: Pair, registers: &[u8]) -> Fields {
-    Fields { num_values: 100, data: Some(registers.to_vec()), ..neither(pair) }
-}
-
-/// Registers of precision p: zero but for these.
-fn registers(p: i32, some: &[(usize, u8)]) -> Vec<u8> {
-    let mut bytes = vec![0; 1 << p];
-    for (i, r) in some {
-        bytes[*i] = *r;
-    }
-    bytes
-}
-
-/// The list 1, 2, .. n: its first `long` gaps are spelled with two bytes.
-fn spelled(n: usize, long: usize) -> Vec<u8> {
-    (0..n).flat_map(|i| if i < long { vec![0x81, 0x00] } else { vec![0x01] }).collect()
-}
-
-fn upto(first: u32, n: u32) -> Vec<u32> {
-    (first..first + n).collect()
+    states::list(pair, values).encode()
 }
 
 // ---- cases
@@ -845,64 +815,24 @@ fn full_size(made: &mut Made) {
 }
 
 impl Made {
-    fn some_pair(&mut self) -> Pair {
-        let p = 4 + self.chance.below(3) as i32;
-        (p, p + [0, 1, 4, 5, 5, 6][self.chance.below(6) as usize])
-    }
-
-    fn some_list(&mut self, (p, s): Pair, most: u64) -> Vec<u32> {
-        let n = self.chance.below(most + 1);
-        let mut values: Vec<u32> = (0..n)
-            .map(|_| {
-                let few = 1 + self.chance.below(12);
-                if self.chance.below(2) == 0 {
-                    let index = self.chance.below(few.min(1 << p)) as u32;
-                    return marked((p, s), index, self.chance.below((66 - s) as u64) as u32);
-                }
-                let v = self.chance.below((few * few * 4).min(1 << s)) as u32;
-                if self.chance.below(3) == 0 { v >> (s - p) << (s - p) } else { v }
-            })
-            .collect();
-        values.sort();
-        values
-    }
-
-    fn some_registers(&mut self, p: i32) -> Vec<u8> {
-        let often = [2, 5, 40][self.chance.below(3) as usize];
-        (0..1 << p).map(|_| if self.chance.below(often) == 0 { 1 + self.chance.below((65 - p) as u64) as u8 } else { 0 }).collect()
-    }
-
     /// A valid state, mostly of this pair; mostly a list.
     fn some_state(&mut self, pair: Pair) -> Vec<u8> {
-        let pair = if self.chance.below(12) == 0 { self.some_pair() } else { pair };
+        let pair = if self.chance.below(12) == 0 { some_pair(&mut self.chance) } else { pair };
         let mut f = match self.chance.below(16) {
-            0 => dense(pair, &self.some_registers(pair.0)),
+            0 => dense(pair, &some_registers(&mut self.chance, pair.0)),
             1 => neither(pair),
             2 => {
                 let s = [-1, 3, 30, 9][self.chance.below(4) as usize];
-                dense((pair.0, s), &self.some_registers(pair.0))
+                dense((pair.0, s), &some_registers(&mut self.chance, pair.0))
             }
             n => {
-                let values = self.some_list(pair, if n < 6 { 16 } else { 3 });
+                let values = some_list(&mut self.chance, pair, if n < 6 { 16 } else { 3 });
                 raw(pair, values.len() as i32, &original::encode_sparse(&values))
             }
         };
         f.value_type = if self.chance.below(10) == 0 { [7, 8, 11][self.chance.below(3) as usize] } else { 0 };
         f.num_values = self.chance.below(9) as i64 - 2;
         f.encode()
-    }
-
-    /// A copy that is damaged somewhere.
-    fn damaged(&mut self, bytes: &[u8]) -> Vec<u8> {
-        let mut out = bytes.to_vec();
-        let at = self.chance.below(out.len() as u64) as usize;
-        match self.chance.below(4) {
-            0 => out[at] ^= 1 << self.chance.below(8),
-            1 => out.truncate(at),
-            2 => out[at] = self.chance.byte(),
-            _ => out.insert(at, self.chance.byte()),
-        }
-        out
     }
 
     /// A copy in which one index or length is another number.
@@ -924,18 +854,18 @@ impl Made {
 fn by_chance(made: &mut Made) {
     made.all.remark("Batches by chance, each with copies of it that are damaged: a byte, an index or a length");
     for _ in 0..70 {
-        let pair = made.some_pair();
+        let pair = some_pair(&mut made.chance);
         let n = 1 + made.chance.below(9);
         let states: Vec<Vec<u8>> = (0..n)
             .map(|_| {
                 let state = made.some_state(pair);
-                if made.chance.below(8) == 0 { made.damaged(&state) } else { state }
+                if made.chance.below(8) == 0 { damaged(&mut made.chance, &state) } else { state }
             })
             .collect();
         let apart = [0, 0, 0, 1, 5][made.chance.below(5) as usize];
         let batch = chain_apart(apart, &states);
         made.batch(&batch);
-        let damaged = made.damaged(&batch);
+        let damaged = damaged(&mut made.chance, &batch);
         made.batch(&damaged);
         for _ in 0..2 {
             let misled = made.misled(&batch);

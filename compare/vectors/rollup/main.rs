@@ -5,10 +5,12 @@
 
 mod cases;
 mod model;
+mod states;
 
 use cases::{hex, mark, marked, text, unhex, Cases, Chance, Pair};
-use model::{ascends, limit, Head, Rollup, DENSE, SPARSE, UNSTARTED};
+use model::{limit, Head, Rollup, DENSE, SPARSE, UNSTARTED};
 use original::Fields;
+use states::{damaged, dense, list, neither, raw, registers, some_list, some_pair, some_registers, spelled, upto};
 
 /// What lent memory is filled with.
 const REGISTER: u8 = 165;
@@ -50,43 +52,6 @@ fn runs(bytes: &[u8]) -> String {
 }
 
 // ---- states
-
-/// A state with neither data nor a list.
-fn neither((p, s): Pair) -> Fields {
-    Fields { kind: 112, num_values: 1, encoding_version: 2, value_type: 0, sparse_size: 0, precision: p, sparse_precision: s, data: None, sparse_data: None }
-}
-
-/// A state whose list has these bytes.
-fn raw(pair: Pair, size: i32, bytes: &[u8]) -> Fields {
-    Fields { sparse_size: size, sparse_data: Some(bytes.to_vec()), ..neither(pair) }
-}
-
-fn list(pair: Pair, values: &[u32]) -> Fields {
-    assert!(ascends(values));
-    Fields { num_values: values.len() as i64, ..raw(pair, values.len() as i32, &original::encode_sparse(values)) }
-}
-
-fn dense(pair: Pair, registers: &[u8]) -> Fields {
-    Fields { num_values: 100, data: Some(registers.to_vec()), ..neither(pair) }
-}
-
-/// Registers of precision p: zero but for these.
-fn registers(p: i32, some: &[(usize, u8)]) -> Vec<u8> {
-    let mut bytes = vec![0; 1 << p];
-    for (i, r) in some {
-        bytes[*i] = *r;
-    }
-    bytes
-}
-
-/// The list 1, 2, .. n: its first `long` gaps are spelled with two bytes.
-fn spelled(n: usize, long: usize) -> Vec<u8> {
-    (0..n).flat_map(|i| if i < long { vec![0x81, 0x00] } else { vec![0x01] }).collect()
-}
-
-fn upto(first: u32, n: u32) -> Vec<u32> {
-    (first..first + n).collect()
-}
 
 // ---- cases
 
@@ -973,46 +938,19 @@ fn difference(made: &mut Made) {
 }
 
 impl Made {
-    fn some_pair(&mut self) -> Pair {
-        let p = 4 + self.chance.below(3) as i32;
-        (p, p + [0, 1, 4, 5, 5, 6][self.chance.below(6) as usize])
-    }
-
-    fn some_value(&mut self, (p, s): Pair) -> u32 {
-        let few = 1 + self.chance.below(12);
-        if self.chance.below(2) == 0 {
-            let index = self.chance.below(few.min(1 << p)) as u32;
-            return marked((p, s), index, self.chance.below((66 - s) as u64) as u32);
-        }
-        let v = self.chance.below((few * few * 4).min(1 << s)) as u32;
-        if self.chance.below(3) == 0 { v >> (s - p) << (s - p) } else { v }
-    }
-
-    fn some_list(&mut self, pair: Pair, most: u64) -> Vec<u32> {
-        let n = self.chance.below(most + 1);
-        let mut values: Vec<u32> = (0..n).map(|_| self.some_value(pair)).collect();
-        values.sort();
-        values
-    }
-
-    fn some_registers(&mut self, p: i32) -> Vec<u8> {
-        let often = [2, 5, 40][self.chance.below(3) as usize];
-        (0..1 << p).map(|_| if self.chance.below(often) == 0 { 1 + self.chance.below((65 - p) as u64) as u8 } else { 0 }).collect()
-    }
-
     /// A valid state, mostly of this pair; mostly a list.
     fn some_state(&mut self, pair: Pair) -> Vec<u8> {
-        let pair = if self.chance.below(12) == 0 { self.some_pair() } else { pair };
+        let pair = if self.chance.below(12) == 0 { some_pair(&mut self.chance) } else { pair };
         let value_type = if self.chance.below(10) == 0 { [7, 8, 11][self.chance.below(3) as usize] } else { 0 };
         let mut f = match self.chance.below(16) {
-            0 => dense(pair, &self.some_registers(pair.0)),
+            0 => dense(pair, &some_registers(&mut self.chance, pair.0)),
             1 => neither(pair),
             2 => {
                 let s = [-1, 3, 30, 9][self.chance.below(4) as usize];
-                dense((pair.0, s), &self.some_registers(pair.0))
+                dense((pair.0, s), &some_registers(&mut self.chance, pair.0))
             }
             n => {
-                let values = self.some_list(pair, if n < 6 { 16 } else { 3 });
+                let values = some_list(&mut self.chance, pair, if n < 6 { 16 } else { 3 });
                 list(pair, &values)
             }
         };
@@ -1021,22 +959,9 @@ impl Made {
         f.encode()
     }
 
-    /// A copy that is damaged somewhere.
-    fn damaged(&mut self, bytes: &[u8]) -> Vec<u8> {
-        let mut out = bytes.to_vec();
-        let at = self.chance.below(out.len() as u64) as usize;
-        match self.chance.below(4) {
-            0 => out[at] ^= 1 << self.chance.below(8),
-            1 => out.truncate(at),
-            2 => out[at] = self.chance.byte(),
-            _ => out.insert(at, self.chance.byte()),
-        }
-        out
-    }
-
     fn some_call(&mut self, pair: Pair) {
         let state = self.some_state(pair);
-        let state = if self.chance.below(6) == 0 { self.damaged(&state) } else { state };
+        let state = if self.chance.below(6) == 0 { damaged(&mut self.chance, &state) } else { state };
         let kind = if self.chance.below(4) == 0 { "f" } else { "a" };
         if self.call(kind, &state) == 0 {
             self.near();
@@ -1313,7 +1238,7 @@ fn writing_numbers(made: &mut Made) {
 fn by_chance(made: &mut Made) {
     made.all.remark("Sequences by chance: valid states, damaged ones among them, by `add` and by `add_fitting`; now and then little memory");
     for _ in 0..44 {
-        let pair = made.some_pair();
+        let pair = some_pair(&mut made.chance);
         let n = if made.chance.below(5) == 0 { made.chance.below(24) as usize } else { 90 };
         made.lend((1 << pair.0) + 2, n, 90, 90);
         for _ in 0..8 {
@@ -1323,19 +1248,19 @@ fn by_chance(made: &mut Made) {
     }
     made.all.remark("Heads by chance that fit, some of which no sequence of calls leaves");
     for _ in 0..36 {
-        let pair = made.some_pair();
+        let pair = some_pair(&mut made.chance);
         made.lend((1 << pair.0) + 1, 90, 90, 90);
         let head = Head { form: SPARSE, allowed: [15, 15, 12, 1][made.chance.below(4) as usize], num_values: -3, p: pair.0, s: pair.1, size: 8, ..Head::default() };
         if made.chance.below(6) == 0 {
-            let mut registers = made.some_registers(pair.0);
+            let mut registers = some_registers(&mut made.chance, pair.0);
             registers[3] = (88 - pair.0) as u8;
             made.set_registers(&registers);
             made.head(Head { form: DENSE, ..head });
         } else {
-            let kept = made.some_list(pair, 24);
+            let kept = some_list(&mut made.chance, pair, 24);
             let bytes = original::encode_sparse(&kept).len() as u64 + [0, 0, 3, 20][made.chance.below(4) as usize];
             let most = limit(pair.0).saturating_sub(bytes + 1) / 5;
-            let mut waiting = made.some_list(pair, most.min(6));
+            let mut waiting = some_list(&mut made.chance, pair, most.min(6));
             if made.chance.below(2) == 0 {
                 waiting.reverse();
             }

@@ -1,0 +1,83 @@
+//! States to make cases of: those of one kind, and by chance. Shared by the makers of the vectors of `rollup_cases` and `roll_cases`.
+
+use crate::cases::{marked, Chance, Pair};
+use original::Fields;
+
+/// A state with neither data nor a list.
+pub fn neither((p, s): Pair) -> Fields {
+    Fields { kind: 112, num_values: 1, encoding_version: 2, value_type: 0, sparse_size: 0, precision: p, sparse_precision: s, data: None, sparse_data: None }
+}
+
+/// A state whose list has these bytes.
+pub fn raw(pair: Pair, size: i32, bytes: &[u8]) -> Fields {
+    Fields { sparse_size: size, sparse_data: Some(bytes.to_vec()), ..neither(pair) }
+}
+
+pub fn list(pair: Pair, values: &[u32]) -> Fields {
+    assert!(values.is_sorted());
+    Fields { num_values: values.len() as i64, ..raw(pair, values.len() as i32, &original::encode_sparse(values)) }
+}
+
+pub fn dense(pair: Pair, registers: &[u8]) -> Fields {
+    Fields { num_values: 100, data: Some(registers.to_vec()), ..neither(pair) }
+}
+
+/// Registers of precision p: zero but for these.
+pub fn registers(p: i32, some: &[(usize, u8)]) -> Vec<u8> {
+    let mut bytes = vec![0; 1 << p];
+    for (i, r) in some {
+        bytes[*i] = *r;
+    }
+    bytes
+}
+
+/// The list 1, 2, .. n: its first `long` gaps are spelled with two bytes.
+pub fn spelled(n: usize, long: usize) -> Vec<u8> {
+    (0..n).flat_map(|i| if i < long { vec![0x81, 0x00] } else { vec![0x01] }).collect()
+}
+
+pub fn upto(first: u32, n: u32) -> Vec<u32> {
+    (first..first + n).collect()
+}
+
+// ---- by chance
+
+pub fn some_pair(chance: &mut Chance) -> Pair {
+    let p = 4 + chance.below(3) as i32;
+    (p, p + [0, 1, 4, 5, 5, 6][chance.below(6) as usize])
+}
+
+pub fn some_value(chance: &mut Chance, (p, s): Pair) -> u32 {
+    let few = 1 + chance.below(12);
+    if chance.below(2) == 0 {
+        let index = chance.below(few.min(1 << p)) as u32;
+        return marked((p, s), index, chance.below((66 - s) as u64) as u32);
+    }
+    let v = chance.below((few * few * 4).min(1 << s)) as u32;
+    if chance.below(3) == 0 { v >> (s - p) << (s - p) } else { v }
+}
+
+pub fn some_list(chance: &mut Chance, pair: Pair, most: u64) -> Vec<u32> {
+    let n = chance.below(most + 1);
+    let mut values: Vec<u32> = (0..n).map(|_| some_value(chance, pair)).collect();
+    values.sort();
+    values
+}
+
+pub fn some_registers(chance: &mut Chance, p: i32) -> Vec<u8> {
+    let often = [2, 5, 40][chance.below(3) as usize];
+    (0..1 << p).map(|_| if chance.below(often) == 0 { 1 + chance.below((65 - p) as u64) as u8 } else { 0 }).collect()
+}
+
+/// A copy that is damaged somewhere.
+pub fn damaged(chance: &mut Chance, bytes: &[u8]) -> Vec<u8> {
+    let mut out = bytes.to_vec();
+    let at = chance.below(out.len() as u64) as usize;
+    match chance.below(4) {
+        0 => out[at] ^= 1 << chance.below(8),
+        1 => out.truncate(at),
+        2 => out[at] = chance.byte(),
+        _ => out.insert(at, chance.byte()),
+    }
+    out
+}
