@@ -9,3 +9,4 @@ pub mod encoding;
 pub mod fields;
 pub mod state;
 pub mod varint;
+pub mod view;

@@ -6,7 +6,7 @@ ghost use mathlib.Core.List.{List};
 ghost use Prim.Native.Nat.{ℕ, _+_, _≤_, _<_, _^_};
 ghost use lib.ListN.{length, take, drop};
 ghost use Rattle.wire.specs.Fields.{fieldOf};
-ghost use Rattle.wire.specs.State.{hllNumberOf, hllBytesOf, otherOf, hllField, numberOf, nestedOf, outerField, partOf, hllOf, stateOf, bytesOrNone, emptyState, withHllNumber, withHllBytes, withNumber, HllInside, ParsePost, StepPost, HllStepPost, HllPost, hllStepRefusal, hllRefusal, stepRefusal};
+ghost use Rattle.wire.specs.State.{hllNumberOf, hllBytesOf, otherOf, hllField, numberOf, nestedOf, outerField, hllOf, stateOf, bytesOrNone, emptyState, withHllNumber, withHllBytes, withNumber, HllInside, ParsePost, StepPost, HllStepPost, HllPost, hllStepRefusal, hllRefusal, stepRefusal};
 use crate::compact::Compact;
 use crate::compact::parse_compact;
 use crate::fields::Skipped;
@@ -22,6 +22,7 @@ use crate::varint::Cursor;
 use crate::varint::Varint;
 use crate::varint::read_varint;
 use crate::varint::varint_refusal;
+use crate::view::view;
 
 // Where the bytes of a data field stand in the state's.
 pub struct Part {
@@ -349,39 +350,16 @@ pub fn parse(s: &[u8]) -> Parsed
     Parsed::Read(f)
 }
 
-// The bytes of a data field, as the part of the state's bytes that holds it.
-fn part_bytes(bytes: &[u8], present: bool, p: Part) -> &[u8]
-    ensures { λ r. ⌜ now r ≡ bytesOrNone (partOf (now (bytes .entry)) present p) ⌝ }
-{
-    let start = p.start;
-    let len = p.len;
-    if !present {
-        return &bytes[..0];
-    }
-    if bytes.len() <= start {
-        return &bytes[..0];
-    }
-    if bytes.len() - start < len {
-        return &bytes[start..];
-    }
-    let end = start + len;
-    &bytes[start..end]
-}
-
 // Field 5, none where it is absent. `bytes` are those that `parse` read `f` from.
 pub fn data(bytes: &[u8], f: Fields) -> &[u8]
     ensures { λ r. ⌜ now r ≡ bytesOrNone (stateOf (now (bytes .entry)) f .hll .«data») ⌝ }
 {
-    let h = f.hll;
-    let p = h.data;
-    part_bytes(bytes, h.data_present, p)
+    view(bytes, f).data()
 }
 
 // Field 6, likewise.
 pub fn sparse_data(bytes: &[u8], f: Fields) -> &[u8]
     ensures { λ r. ⌜ now r ≡ bytesOrNone (stateOf (now (bytes .entry)) f .hll .sparseData) ⌝ }
 {
-    let h = f.hll;
-    let p = h.sparse_data;
-    part_bytes(bytes, h.sparse_data_present, p)
+    view(bytes, f).sparse_data()
 }

@@ -6,8 +6,8 @@ use lib.ListN.{take, drop}
 use borrow.Author.Needs.{needs}
 use denote.Ref.{now}
 use Rattle.wire.proofs.StateLaws.{part-absent, part-present, part-past, part-rest}
-use Rattle.wire.proofs.state.part_bytes.Statement.{statement}
-use Rattle.wire.proofs.state.part_bytes.Tie as tie
+use Rattle.wire.proofs.view.part_bytes.Statement.{statement}
+use Rattle.wire.proofs.view.part_bytes.Tie as tie
 
 slice-aggregate-result : tie.Need-slice-aggregate-result
 slice-aggregate-result c = search needs
