@@ -100,9 +100,9 @@ struct-code part = record {
   params = 1;
   locals = holds (sliceAt (named 0)) ∷ holds (T′.mir (named 0)) ∷ holds (sliceAt erased) ∷ holds F′.mir ∷ [];
   body =
-    Mir.seq (Mir.assign (Mir.place 2 []) (Mir.rvOpd (Mir.copy (Mir.place 1 (Mir.field 0 ∷ [])))))
-    (Mir.seq (Mir.assign (Mir.place 3 []) (Mir.rvOpd (Mir.copy (Mir.place 1 (Mir.field 1 ∷ [])))))
-    (Mir.seq (Mir.call part (Mir.copy (Mir.place 2 []) ∷ Mir.copy (Mir.place 3 []) ∷ []) (Mir.place 0 [])) Mir.return));
+      Mir.seq (Mir.assign (Mir.place 2 []) (Mir.rvOpd (Mir.copy (Mir.place 1 (Mir.field 0 ∷ [])))))
+      (Mir.seq (Mir.assign (Mir.place 3 []) (Mir.rvOpd (Mir.copy (Mir.place 1 (Mir.field 1 ∷ [])))))
+      (Mir.seq (Mir.call part (Mir.copy (Mir.place 2 []) ∷ Mir.copy (Mir.place 3 []) ∷ []) (Mir.place 0 [])) Mir.return));
 }
 
 -- `view(bytes, f).method()`
@@ -113,11 +113,14 @@ parts-code makes method = record {
   params = 2;
   locals = holds (sliceAt (named 0)) ∷ holds (sliceAt (named 0)) ∷ holds F′.mir ∷ holds (T′.mir erased) ∷ [];
   body =
-    Mir.seq (Mir.call makes (Mir.copy (Mir.place 1 []) ∷ Mir.copy (Mir.place 2 []) ∷ []) (Mir.place 3 []))
-    (Mir.seq (Mir.call method (Mir.copy (Mir.place 3 []) ∷ []) (Mir.place 0 [])) Mir.return);
+      Mir.seq (Mir.call makes (Mir.copy (Mir.place 1 []) ∷ Mir.copy (Mir.place 2 []) ∷ []) (Mir.place 3 []))
+      (Mir.seq (Mir.call method (Mir.copy (Mir.place 3 []) ∷ []) (Mir.place 0 [])) Mir.return);
 }
 
 -- ---- what the struct and its fields own
+
+abbrev pub made : RefT (List ℕ) → Fields → StateView
+made s f = record { bytes = s; fields = f }
 
 module _ (κ : Lft) where
   abbrev α : NamedLft
@@ -145,22 +148,22 @@ module _ {M : Type 1} (𝓤 : URA M) (H : Heap 𝓤) (A : Atoms 𝓤) (W : Given
   D = T.the-type (α κ)
 
   abbrev mach : Val
-  mach = T′.lowered (viewOf s f)
+  mach = T′.lowered (made s f)
 
   -- what the struct owns, and its fields' own, which it is made of
-  pub opened : ent 𝓤 (sem 𝓤 H A (Own κ (viewOf s f) mach)) (sep 𝓤 (sem 𝓤 H A (Passed κ s f)) (sem 𝓤 H A (Own κ (viewOf s f) mach)))
+  pub opened : ent 𝓤 (sem 𝓤 H A (Own κ (made s f) mach)) (sep 𝓤 (sem 𝓤 H A (Passed κ s f)) (sem 𝓤 H A (Own κ (made s f) mach)))
   opened =
-      qed W (‵ (Own κ (viewOf s f) mach) ∷ []) ∵
-      use1 W (‵ (Own κ (viewOf s f) mach) ⊛ ‵ (Own κ (viewOf s f) mach)) (LL.copy D (T′.the-copy (α κ)) 𝓤 H A W .twice (viewOf s f) (mach ∷ [])) $ split ! $
+      qed W (‵ (Own κ (made s f) mach) ∷ []) ∵
+      use1 W (‵ (Own κ (made s f) mach) ⊛ ‵ (Own κ (made s f) mach)) (LL.copy D (T′.the-copy (α κ)) 𝓤 H A W .twice (made s f) (mach ∷ [])) $ split ! $
       use1 W (given (mach ∷ [] ≡ mach ∷ []) (‵ (all-own (D .parts) (T′.the-laws (α κ)) (s, (f, tt))))) (own-open 𝓤 H A W D (T′.the-laws (α κ)) (s, (f, tt)) mach) $ learn ! (λ _. frame ! $ done !)
 
-  pub shut : ent 𝓤 (sem 𝓤 H A (Passed κ s f)) (sep 𝓤 (sem 𝓤 H A (Passed κ s f)) (sem 𝓤 H A (Own κ (viewOf s f) mach)))
-  shut = qed W (‵ (Passed κ s f) ∷ []) ∵ use1 W (‵ (Own κ (viewOf s f) mach)) (own-shut 𝓤 H A W D (T′.the-laws (α κ)) (s, (f, tt))) $ by ! opened
+  pub shut : ent 𝓤 (sem 𝓤 H A (Passed κ s f)) (sep 𝓤 (sem 𝓤 H A (Passed κ s f)) (sem 𝓤 H A (Own κ (made s f) mach)))
+  shut = qed W (‵ (Passed κ s f) ∷ []) ∵ use1 W (‵ (Own κ (made s f) mach)) (own-shut 𝓤 H A W D (T′.the-laws (α κ)) (s, (f, tt))) $ by ! opened
 
   pub twice : ent 𝓤 (sem 𝓤 H A (Passed κ s f)) (sep 𝓤 (sem 𝓤 H A (Passed κ s f)) (sem 𝓤 H A (Passed κ s f)))
   twice =
-      qed W (‵ (Passed κ s f) ∷ []) ∵ use1 W (‵ (Passed κ s f) ⊛ ‵ (Own κ (viewOf s f) mach)) shut $ split ! $ frame ! $
-      use1 W (‵ (Passed κ s f) ⊛ ‵ (Own κ (viewOf s f) mach)) opened $ split ! $ move ! (1 ∷ []) $ drop ! $ done !
+      qed W (‵ (Passed κ s f) ∷ []) ∵ use1 W (‵ (Passed κ s f) ⊛ ‵ (Own κ (made s f) mach)) shut $ split ! $ frame ! $
+      use1 W (‵ (Passed κ s f) ⊛ ‵ (Own κ (made s f) mach)) opened $ split ! $ move ! (1 ∷ []) $ drop ! $ done !
 
 -- ---- a method: the struct is taken apart
 

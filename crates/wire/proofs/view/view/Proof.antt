@@ -32,8 +32,7 @@ use denote.Triple.Table.{entered}
 use denote.Triple.Walked.{says, Stays, stay-none, stay-none-slice, walkOf, goes-none, goes-none-slice, Walks, ends-at, walked, walk-meets}
 use denote.Exit.{yes}
 use Rattle.wire.specs.declared.state.Fields.{Fields}
-use Rattle.wire.specs.View.{viewOf}
-use Rattle.wire.proofs.HeldLaws.{apart, Passed, shut}
+use Rattle.wire.proofs.HeldLaws.{made, apart, Passed, shut}
 use Rattle.wire.proofs.state.Fields as F
 use Rattle.wire.proofs.state.Fields.Laws as F′
 use Rattle.wire.proofs.view.StateView.Laws as T′
@@ -51,7 +50,7 @@ module _ {M : Type 1} (𝓤 : URA M) (H : Heap 𝓤) (A : Atoms 𝓤) (W : Given
   v = sliceVal (s .ptr) (length (s .now))
 
   abbrev mach : Val
-  mach = T′.lowered (viewOf s f)
+  mach = T′.lowered (made s f)
 
   abbrev Post : Val → SProp 𝓤
   Post = walkOf 𝓤 H A view.ended stayed (view.clauses 𝓤 H A mem run) .post (((κ, tt), (q, tt), tt, (s, (f, tt)), apart κ s f), tt)
@@ -59,7 +58,7 @@ module _ {M : Type 1} (𝓤 : URA M) (H : Heap 𝓤) (A : Atoms 𝓤) (W : Given
   exits : ent 𝓤 (onEntry 𝓤 H A view.signature (κ, tt) (q, tt) (s, (f, tt)) (apart κ s f)) (Post mach)
   exits =
       qed W ((‵ (flft κ q) ⊛ ‵ ftrue) ∷ ‵ (Passed κ s f) ∷ []) ∵
-      suffices ! _ (ends-at 𝓤 H A view.ended stayed (view.clauses 𝓤 H A mem run) W (((κ, tt), (q, tt), tt, (s, (f, tt)), apart κ s f), tt) mach (viewOf s f) (tt, (tt, tt)) (tt, (tt, tt))) $ says ! refl $
+      suffices ! _ (ends-at 𝓤 H A view.ended stayed (view.clauses 𝓤 H A mem run) W (((κ, tt), (q, tt), tt, (s, (f, tt)), apart κ s f), tt) mach (made s f) (tt, (tt, tt)) (tt, (tt, tt))) $ says ! refl $
       frame ! $ by ! (shut 𝓤 H A W κ s f)
 
   module _ (C : Calls 𝓤 H) (Λ : Loops 𝓤 H) where
