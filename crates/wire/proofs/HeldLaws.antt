@@ -1,11 +1,13 @@
 -- The proofs by hand of the functions over a `StateView`, the struct that holds the caller's bytes. What differs between the two data fields is a function
 -- (`Answer`) of the bytes and the fields, and the names of the functions called: each walk stands here once, and the function's own proof puts these in.
+--     made                 the struct of a slice and fields
 --     Own, Passed          what a `StateView` owns, and what the slice and the fields that it is made of own together
 --     shut, opened, twice  each gives the other, and is kept: the struct is Copy
 --     struct-meets         a method takes the struct apart, and calls a function on the slice and the fields
 --     parts-meets          a function on the slice and the fields has `view` make the struct, and calls a method
--- A walk goes by the MIR of `struct-code` and `parts-code`. That a function's MIR is that, and its contract the one here, the prover sees by computing.
-use mathlib.Core.Path.{_≡_, refl, ap, _∙_}
+-- A walk goes by the MIR of `struct-code` and `parts-code`: that a function's MIR is that the prover sees by computing. That its contract is the one here the
+-- function's own proof says in a line (`says`), so that a contract that says something else is refused there.
+use mathlib.Core.Path.{_≡_, refl, sym, ap, subst, _∙_}
 use Prim.Native.Nat.{ℕ}
 use mathlib.Core.List.{List, [], _∷_}
 use lib.Dec.{T as Holds}
@@ -234,12 +236,13 @@ module _ {M : Type 1} (𝓤 : URA M) (H : Heap 𝓤) (A : Atoms 𝓤) (W : Given
       (λ κs qs bounds a _ are. via 𝓤 _ (fst∗ 𝓤 _ (emp 𝓤))
       (struct-walk 𝓤 H A W g (κs .0) (qs .0) (a .0) C Λ fm part known (LL.lawful (T.the-type (namedLft 1 0 tt κs)) (T′.the-laws (namedLft 1 0 tt κs)) 𝓤 H A W .typed (a .0) _ (are .0) .0)))
 
-  pub struct-meets : (𝓣 : Tables 𝓤 H) (part : Name) → Triple 𝓤 (𝓣 .C part) (OnParts 𝓤 H A g)
-      → Triple 𝓤 (WpFn 𝓤 H (𝓣 .C) (𝓣 .Λ) (struct-code part)) (OnStruct 𝓤 H A g)
-  struct-meets 𝓣 part known =
-      walk-meets 𝓤 H A onStruct struct-stays W (goes-none 𝓤 H A W 1 (λ κs. T.the-row (namedLft 1 0 tt κs)) yes (λ κs x f. refl), tt)
+  pub struct-meets : (c : Clauses 𝓤 onStruct) → c ≡ struct-clauses 𝓤 g → (𝓣 : Tables 𝓤 H) (part : Name) → Triple 𝓤 (𝓣 .C part) (OnParts 𝓤 H A g)
+      → Meets 𝓤 H A (onStruct .signature) (WpFn 𝓤 H (𝓣 .C) (𝓣 .Λ) (struct-code part)) (closing 𝓤 H A onStruct c)
+  struct-meets c is 𝓣 part known =
+      subst (λ (c : Clauses 𝓤 onStruct). Meets 𝓤 H A (onStruct .signature) (WpFn 𝓤 H (𝓣 .C) (𝓣 .Λ) (struct-code part)) (closing 𝓤 H A onStruct c)) (sym is)
+      (walk-meets 𝓤 H A onStruct struct-stays W (goes-none 𝓤 H A W 1 (λ κs. T.the-row (namedLft 1 0 tt κs)) yes (λ κs x f. refl), tt)
       (struct-clauses 𝓤 g) (WpFn 𝓤 H (𝓣 .C) (𝓣 .Λ) (struct-code part)) (WpFn-mono 𝓤 H (W .laws) 𝓣 (struct-code part))
-      (struct-walks (𝓣 .C) (𝓣 .Λ) (fmOf 𝓤 H (W .laws) 𝓣) part known)
+      (struct-walks (𝓣 .C) (𝓣 .Λ) (fmOf 𝓤 H (W .laws) 𝓣) part known))
 
 -- ---- above the methods: `view` makes the struct, and its method is called
 
@@ -324,9 +327,11 @@ module _ {M : Type 1} (𝓤 : URA M) (H : Heap 𝓤) (A : Atoms 𝓤) (W : Given
       (λ κs qs bounds a _ are. via 𝓤 _ (fst∗ 𝓤 _ (emp 𝓤))
       (parts-walk 𝓤 H A W mem run g (κs .0) (qs .0) (a .0) (a .1 .0) C Λ fm makes known-view method known (are .0) (LL.lawful F.the-type F′.the-laws 𝓤 H A W .typed (a .1 .0) _ (are .1 .0) .0)))
 
-  pub parts-meets : (𝓣 : Tables 𝓤 H) (makes : Name) → Triple 𝓤 (𝓣 .C makes) (View 𝓤 H A mem run) → (method : Name) → Triple 𝓤 (𝓣 .C method) (OnStruct 𝓤 H A g)
-      → Triple 𝓤 (WpFn 𝓤 H (𝓣 .C) (𝓣 .Λ) (parts-code makes method)) (OnParts 𝓤 H A g)
-  parts-meets 𝓣 makes known-view method known =
-      walk-meets 𝓤 H A onParts parts-stay W (goes-none-slice 𝓤 H A W 1 (0 ∷ []) tt (plain (λ _. u8)) yes, (goes-none 𝓤 H A W 1 (λ _. F.the-row) yes (λ κs x f. refl), tt))
+  pub parts-meets : (c : Clauses 𝓤 onParts) → c ≡ parts-clauses 𝓤 g
+      → (𝓣 : Tables 𝓤 H) (makes : Name) → Triple 𝓤 (𝓣 .C makes) (View 𝓤 H A mem run) → (method : Name) → Triple 𝓤 (𝓣 .C method) (OnStruct 𝓤 H A g)
+      → Meets 𝓤 H A (onParts .signature) (WpFn 𝓤 H (𝓣 .C) (𝓣 .Λ) (parts-code makes method)) (closing 𝓤 H A onParts c)
+  parts-meets c is 𝓣 makes known-view method known =
+      subst (λ (c : Clauses 𝓤 onParts). Meets 𝓤 H A (onParts .signature) (WpFn 𝓤 H (𝓣 .C) (𝓣 .Λ) (parts-code makes method)) (closing 𝓤 H A onParts c)) (sym is)
+      (walk-meets 𝓤 H A onParts parts-stay W (goes-none-slice 𝓤 H A W 1 (0 ∷ []) tt (plain (λ _. u8)) yes, (goes-none 𝓤 H A W 1 (λ _. F.the-row) yes (λ κs x f. refl), tt))
       (parts-clauses 𝓤 g) (WpFn 𝓤 H (𝓣 .C) (𝓣 .Λ) (parts-code makes method)) (WpFn-mono 𝓤 H (W .laws) 𝓣 (parts-code makes method))
-      (parts-walks (𝓣 .C) (𝓣 .Λ) (fmOf 𝓤 H (W .laws) 𝓣) makes known-view method known)
+      (parts-walks (𝓣 .C) (𝓣 .Λ) (fmOf 𝓤 H (W .laws) 𝓣) makes known-view method known))

@@ -1,6 +1,6 @@
-// Reading a state. Ported from `StateView` and its `parse`, `parse_general` and `parse_hll` in src/proto.rs of zetasketch-rs at commit
+// Reading a state. Ported from `parse`, `parse_general` and `parse_hll` of `StateView` in src/proto.rs of zetasketch-rs at commit
 // 9abe68bf87 (Apache-2.0, see NOTICE). Changed: the fields are a struct by value with the positions of the two data fields, a turn of
-// each loop is a function, and a refusal is a number.
+// each loop is a function, and a refusal is a number. `StateView` itself, the fields with the caller's bytes, is in view.rt.
 ghost use mathlib.Core.Path.{_≡_};
 ghost use mathlib.Core.List.{List};
 ghost use Prim.Native.Nat.{ℕ, _+_, _≤_, _<_, _^_};
@@ -350,7 +350,8 @@ pub fn parse(s: &[u8]) -> Parsed
     Parsed::Read(f)
 }
 
-// Field 5, none where it is absent. `bytes` are those that `parse` read `f` from.
+// Field 5, none where it is absent. `bytes` are those that `parse` read `f` from. (Parameters that hold no reference inside, so that callers
+// need no proof by hand.)
 pub fn data(bytes: &[u8], f: Fields) -> &[u8]
     ensures { λ r. ⌜ now r ≡ bytesOrNone (stateOf (now (bytes .entry)) f .hll .«data») ⌝ }
 {
