@@ -5,9 +5,9 @@
 --     shut, opened, twice  each gives the other, and is kept: the struct is Copy
 --     struct-meets         a method takes the struct apart, and calls a function on the slice and the fields
 --     parts-meets          a function on the slice and the fields has `view` make the struct, and calls a method
--- A walk goes by the MIR of `struct-code` and `parts-code`: that a function's MIR is that the prover sees by computing. That its contract is the one here the
--- function's own proof says in a line (`says`), so that a contract that says something else is refused there.
-use mathlib.Core.Path.{_≡_, refl, sym, ap, subst, _∙_}
+-- A walk goes by the MIR of `struct-code` and `parts-code`: that a function's MIR is that the prover sees by computing. That its `ensures` follows from what is
+-- said here of the answer (`Follows`) the function's own proof shows, so that a contract that says something else is refused there.
+use mathlib.Core.Path.{_≡_, refl, ap, _∙_}
 use Prim.Native.Nat.{ℕ}
 use mathlib.Core.List.{List, [], _∷_}
 use lib.Dec.{T as Holds}
@@ -22,6 +22,7 @@ use prog.Memory.{Memory}
 use prog.Routine.{Routine}
 use prog.Wp.{Heap, Calls, Loops, WpFn, Tables}
 use ghost.Atoms.{Atoms, sem}
+use contract.Lifetimes.{Lfts}
 use contract.Monad.{Fun, fact}
 use types.Kit.{Given, ‵, raw, _⊛_, given, ⋆, some, later, _$_, _∵_, !, qed, by, move, drop, use1, use2, split, join, learn, pick, fsplit, fjoin, suffices, frame, await, done}
 use types.Part.{whole, sub, look-in}
@@ -39,10 +40,11 @@ use denote.Struct.Declared.{Declared}
 use denote.Struct.Laws as LL
 use denote.Struct.Rest.{all-own, own-open, own-shut}
 use denote.Triple.Call.{calls-at}
-use denote.Triple.Clauses.{Ended, Clauses, closing, ensured, lasts}
-use denote.Triple.Entry.{Vals, onEntry}
+use denote.Triple.Clauses.{Ended, Clauses, Lasts, AtExit, atExit, closing, ensured, lasts}
+use denote.Triple.Entry.{Args, Res, Vals, onEntry}
 use denote.Triple.Spec.{Meets, tripleOf}
 use denote.Triple.Statement.{Contract, Triple}
+use denote.Triple.Weaken.{weaken}
 use denote.Triple.Walked.{says, Stays, stay-none, stay-none-slice, walkOf, goes-none, goes-none-slice, Walks, ends-at, walked, walk-meets}
 use Rattle.wire.specs.View.{viewOf}
 use Rattle.wire.specs.declared.state.Fields.{Fields}
@@ -74,12 +76,30 @@ onParts = record {
   kept = (yes, (yes, tt));
 }
 
-module _ {M : Type 1} (𝓤 : URA M) (g : Answer) where
-  abbrev pub struct-clauses : Clauses 𝓤 onStruct
-  struct-clauses κs a = record { ghost = Unit {0}; requires = λ _. emp 𝓤; ensures = λ _ r e. fact 𝓤 (now r ≡ g (now (a .0 .bytes)) (a .0 .fields)) }
+module _ {M : Type 1} (𝓤 : URA M) where
+  -- a contract that asks nothing, by its `ensures`
+  abbrev Ensures : Ended → Type 2
+  Ensures T = (κs : Lfts (T .signature .lifetimes)) → Args (T .signature) κs → Unit {0} → Res (T .signature) κs → AtExit T κs → SProp 𝓤
 
-  abbrev pub parts-clauses : Clauses 𝓤 onParts
-  parts-clauses κs a = record { ghost = Unit {0}; requires = λ _. emp 𝓤; ensures = λ _ r e. fact 𝓤 (now r ≡ g (now (a .0)) (a .1 .0)) }
+  abbrev promise : (T : Ended) → Ensures T → Clauses 𝓤 T
+  promise T E κs a = record { ghost = Unit {0}; requires = λ _. emp 𝓤; ensures = E κs a }
+
+  abbrev struct-ensures : Answer → Ensures onStruct
+  struct-ensures g κs a _ r e = fact 𝓤 (now r ≡ g (now (a .0 .bytes)) (a .0 .fields))
+
+  abbrev parts-ensures : Answer → Ensures onParts
+  parts-ensures g κs a _ r e = fact 𝓤 (now r ≡ g (now (a .0)) (a .1 .0))
+
+  abbrev struct-clauses : Answer → Clauses 𝓤 onStruct
+  struct-clauses g = promise onStruct (struct-ensures g)
+
+  abbrev parts-clauses : Answer → Clauses 𝓤 onParts
+  parts-clauses g = promise onParts (parts-ensures g)
+
+  -- the `ensures` E follows from what is said of the answer
+  abbrev Follows : (T : Ended) → Ensures T → Ensures T → Type 1
+  Follows T said E = (κs : Lfts (T .signature .lifetimes)) (a : Args (T .signature) κs) (g : Unit {0}) (r : Res (T .signature) κs) (ws : Lasts T κs a)
+      → ent 𝓤 (said κs a g r (atExit T κs a ws)) (E κs a g r (atExit T κs a ws))
 
 module _ {M : Type 1} (𝓤 : URA M) (H : Heap 𝓤) (A : Atoms 𝓤) where
   abbrev pub OnStruct : Answer → Contract 𝓤
@@ -236,10 +256,10 @@ module _ {M : Type 1} (𝓤 : URA M) (H : Heap 𝓤) (A : Atoms 𝓤) (W : Given
       (λ κs qs bounds a _ are. via 𝓤 _ (fst∗ 𝓤 _ (emp 𝓤))
       (struct-walk 𝓤 H A W g (κs .0) (qs .0) (a .0) C Λ fm part known (LL.lawful (T.the-type (namedLft 1 0 tt κs)) (T′.the-laws (namedLft 1 0 tt κs)) 𝓤 H A W .typed (a .0) _ (are .0) .0)))
 
-  pub struct-meets : (c : Clauses 𝓤 onStruct) → c ≡ struct-clauses 𝓤 g → (𝓣 : Tables 𝓤 H) (part : Name) → Triple 𝓤 (𝓣 .C part) (OnParts 𝓤 H A g)
-      → Meets 𝓤 H A (onStruct .signature) (WpFn 𝓤 H (𝓣 .C) (𝓣 .Λ) (struct-code part)) (closing 𝓤 H A onStruct c)
-  struct-meets c is 𝓣 part known =
-      subst (λ (c : Clauses 𝓤 onStruct). Meets 𝓤 H A (onStruct .signature) (WpFn 𝓤 H (𝓣 .C) (𝓣 .Λ) (struct-code part)) (closing 𝓤 H A onStruct c)) (sym is)
+  pub struct-meets : (E : Ensures 𝓤 onStruct) → Follows 𝓤 onStruct (struct-ensures 𝓤 g) E → (𝓣 : Tables 𝓤 H) (part : Name) → Triple 𝓤 (𝓣 .C part) (OnParts 𝓤 H A g)
+      → Meets 𝓤 H A (onStruct .signature) (WpFn 𝓤 H (𝓣 .C) (𝓣 .Λ) (struct-code part)) (closing 𝓤 H A onStruct (promise 𝓤 onStruct E))
+  struct-meets E follows 𝓣 part known =
+      weaken 𝓤 H A onStruct W (struct-clauses 𝓤 g) E follows (WpFn 𝓤 H (𝓣 .C) (𝓣 .Λ) (struct-code part)) (WpFn-mono 𝓤 H (W .laws) 𝓣 (struct-code part))
       (walk-meets 𝓤 H A onStruct struct-stays W (goes-none 𝓤 H A W 1 (λ κs. T.the-row (namedLft 1 0 tt κs)) yes (λ κs x f. refl), tt)
       (struct-clauses 𝓤 g) (WpFn 𝓤 H (𝓣 .C) (𝓣 .Λ) (struct-code part)) (WpFn-mono 𝓤 H (W .laws) 𝓣 (struct-code part))
       (struct-walks (𝓣 .C) (𝓣 .Λ) (fmOf 𝓤 H (W .laws) 𝓣) part known))
@@ -327,11 +347,11 @@ module _ {M : Type 1} (𝓤 : URA M) (H : Heap 𝓤) (A : Atoms 𝓤) (W : Given
       (λ κs qs bounds a _ are. via 𝓤 _ (fst∗ 𝓤 _ (emp 𝓤))
       (parts-walk 𝓤 H A W mem run g (κs .0) (qs .0) (a .0) (a .1 .0) C Λ fm makes known-view method known (are .0) (LL.lawful F.the-type F′.the-laws 𝓤 H A W .typed (a .1 .0) _ (are .1 .0) .0)))
 
-  pub parts-meets : (c : Clauses 𝓤 onParts) → c ≡ parts-clauses 𝓤 g
+  pub parts-meets : (E : Ensures 𝓤 onParts) → Follows 𝓤 onParts (parts-ensures 𝓤 g) E
       → (𝓣 : Tables 𝓤 H) (makes : Name) → Triple 𝓤 (𝓣 .C makes) (View 𝓤 H A mem run) → (method : Name) → Triple 𝓤 (𝓣 .C method) (OnStruct 𝓤 H A g)
-      → Meets 𝓤 H A (onParts .signature) (WpFn 𝓤 H (𝓣 .C) (𝓣 .Λ) (parts-code makes method)) (closing 𝓤 H A onParts c)
-  parts-meets c is 𝓣 makes known-view method known =
-      subst (λ (c : Clauses 𝓤 onParts). Meets 𝓤 H A (onParts .signature) (WpFn 𝓤 H (𝓣 .C) (𝓣 .Λ) (parts-code makes method)) (closing 𝓤 H A onParts c)) (sym is)
+      → Meets 𝓤 H A (onParts .signature) (WpFn 𝓤 H (𝓣 .C) (𝓣 .Λ) (parts-code makes method)) (closing 𝓤 H A onParts (promise 𝓤 onParts E))
+  parts-meets E follows 𝓣 makes known-view method known =
+      weaken 𝓤 H A onParts W (parts-clauses 𝓤 g) E follows (WpFn 𝓤 H (𝓣 .C) (𝓣 .Λ) (parts-code makes method)) (WpFn-mono 𝓤 H (W .laws) 𝓣 (parts-code makes method))
       (walk-meets 𝓤 H A onParts parts-stay W (goes-none-slice 𝓤 H A W 1 (0 ∷ []) tt (plain (λ _. u8)) yes, (goes-none 𝓤 H A W 1 (λ _. F.the-row) yes (λ κs x f. refl), tt))
       (parts-clauses 𝓤 g) (WpFn 𝓤 H (𝓣 .C) (𝓣 .Λ) (parts-code makes method)) (WpFn-mono 𝓤 H (W .laws) 𝓣 (parts-code makes method))
       (parts-walks (𝓣 .C) (𝓣 .Λ) (fmOf 𝓤 H (W .laws) 𝓣) makes known-view method known))
