@@ -1,3 +1,4 @@
+-- The laws of batches, each file after those that it needs.
 pub mod ChainLaws
 pub mod ClosingLaws
 pub mod PackingLaws

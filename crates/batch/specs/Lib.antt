@@ -1,3 +1,4 @@
+-- The definitions of batches: the chain, rolling it up, the closing numbers, making a batch and walking it.
 pub mod Chain
 pub mod Batch
 pub mod Closing

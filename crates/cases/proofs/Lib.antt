@@ -1,3 +1,4 @@
+-- The laws of reading cases and of the text of answers.
 pub mod InputLaws
 pub mod OutputLaws
 pub mod RoundTrip

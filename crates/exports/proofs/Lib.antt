@@ -1,3 +1,4 @@
+-- The laws of states as text, each file after those that it needs.
 pub mod WordLaws
 pub mod Base64Laws
 pub mod LineLaws

@@ -1,3 +1,4 @@
+-- The definitions of states as text: words, base64, hexadecimal, lines, a batch of lines.
 pub mod Words
 pub mod Base64
 pub mod Hexadecimal

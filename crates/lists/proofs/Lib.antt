@@ -1,3 +1,4 @@
+-- The laws of values, lists and registers, each file after those that it needs.
 pub mod ValueLaws
 pub mod DecodingLaws
 pub mod CheckingLaws

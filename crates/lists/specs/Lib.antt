@@ -1,3 +1,4 @@
+-- The definitions of values, lists and registers, and the examples that they are held to.
 pub mod Values
 pub mod Sorting
 pub mod Order

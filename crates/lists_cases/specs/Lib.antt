@@ -1,1 +1,2 @@
+-- What the program asks of a case before a call.
 pub mod Tests

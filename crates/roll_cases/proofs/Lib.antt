@@ -1,1 +1,2 @@
+-- The laws of what a line stands for.
 pub mod ExpandingLaws

@@ -1,1 +1,2 @@
+-- The definition of the bytes that a line stands for.
 pub mod Expanding

@@ -1,3 +1,4 @@
+-- The laws of the roll-up; `Agreement` and `WrittenRuns` have the theorems.
 pub mod DenseLaws
 pub mod AddLaws
 pub mod FitLaws

@@ -1,3 +1,4 @@
+-- The definitions of the roll-up: the head, header rules, adding, writing, lists of calls, and the examples; the others are what single functions ask and promise.
 pub mod Accumulator
 pub mod Fitting
 pub mod Header

@@ -1,3 +1,4 @@
+-- Where both tests pass, the bytes hold the registers of the precision (`holding`).
 use denote.Ref.{now}
 use Rattle.lists_cases.proofs.Laws.{never, holding}
 use borrow.Author.Needs.{needs}
