@@ -1,4 +1,6 @@
-// The head of a roll-up, and what is asked of it.
+// The head of a roll-up, and what is asked of it. Ported from `Accumulator`, `new`, `is_empty`, `precisions` and `num_values` in src/accumulator.rs of
+// zetasketch-rs at commit 9abe68bf87 (Apache-2.0, see NOTICE). Changed: the numbers alone, by value, with counts in the place of `Vec`; enums in the place of
+// two flags and an `Option`; and a contract on every function.
 ghost use mathlib.Core.Path.{_≡_};
 ghost use mathlib.Core.Bool.{not};
 ghost use Rattle.rollup.specs.Accumulator.{fresh, countOf, precisionsOf};

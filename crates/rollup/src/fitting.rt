@@ -54,7 +54,8 @@ fn ranges_fit(p: u32, s: u32) -> bool
     sparse_range(p, s)
 }
 
-// The number of bytes from which on a list turns dense.
+// The number of bytes from which on a list turns dense, document 01's L. Ported from `max_sparse_bytes` in src/accumulator.rs of zetasketch-rs at commit
+// 9abe68bf87 (Apache-2.0, see NOTICE). Changed: whole numbers in the place of floats.
 pub(crate) fn size_limit(p: u32) -> usize
     requires { ⌜ (4 ≤ p) × (p ≤ 24) ⌝ }
     ensures { λ r. ⌜ (r ≡ limit p) × (r ≤ 12582912) ⌝ }

@@ -8,19 +8,15 @@ use Rattle.lists_cases.proofs.tests.holds.Reads as reads
 use Rattle.lists_cases.proofs.tests.holds.Lts as lts
 use Rattle.lists.proofs.registers.register_bytes.Reads as register-bytes-reads
 
--- src/tests.rt:31:9
 returns : tie.Need-returns
 returns c = never
 
--- src/tests.rt:33:26
 register-bytes-requires : tie.Need-register-bytes-requires
 register-bytes-requires c κs = search needs
 
--- src/tests.rt:34:9
 returns-2 : tie.Need-returns-2
 returns-2 c = never
 
--- src/tests.rt:27:1
 returns-3 : tie.Need-returns-3
 returns-3 c = λ e. holding (c .before .before .before .before .args .p) (c .before .register-bytes .result) (now (c .before .before .before .before .args .registers)) (c .before .before .if1 .left) (c .before .register-bytes .ensures .0) (c .if2 .left)
 
