@@ -10,3 +10,4 @@ pub mod Accepting
 pub mod Judging
 pub mod Examples
 pub mod SparsePaths
+pub mod Knowing
