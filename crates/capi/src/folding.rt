@@ -6,6 +6,7 @@ ghost use Rattle.rollup.specs.Accumulator.{mem};
 ghost use Rattle.capi.specs.Folds.{between, FoldPre, FoldedPost};
 use rollup::accumulator::Accumulator;
 use rollup::adding;
+use rollup::knowing;
 
 // The bytes from one end to the next, as far as there are any.
 fn between(bytes: &[u8], start: usize, end: usize) -> &[u8]
@@ -38,18 +39,21 @@ pub(crate) fn fold_states(
     ensures { λ r. ⌜ FoldedPost a (mem (now (registers .entry)) (now (sparse .entry)) (now (pending .entry))) (length (now (scratch .entry))) (now (bytes .entry)) (now (ends .entry)) (now (answers .entry)) r (mem (now (registers .exit)) (now (sparse .exit)) (now (pending .exit))) (now (answers .exit)) ⌝ }
 {
     let mut head = a;
+    let mut distinct = knowing::kept_distinct(a, &sparse[..]);
     let mut start: usize = 0;
     let mut i: usize = 0;
     while i < ends.len() {
         let end = ends[i] as usize;
-        let r = adding::add_fitting(
+        let r = adding::add_knowing(
             head,
             registers,
             sparse,
             pending,
             scratch,
             between(bytes, start, end),
+            distinct,
         );
+        distinct = knowing::still_distinct(head, r.head, &sparse[..], distinct);
         head = r.head;
         answers[i] = r.answer;
         start = end;

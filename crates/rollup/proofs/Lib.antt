@@ -8,6 +8,7 @@ pub mod WriteLaws
 pub mod WrittenLaws
 pub mod KeepsLaws
 pub mod ViewLaws
+pub mod KnowingLaws
 pub mod WidthLaws
 pub mod AgreementLaws
 pub mod FoldLaws

@@ -11,3 +11,4 @@ pub mod Accepting
 pub mod Judging
 pub mod Examples
 pub mod SparsePaths
+pub mod Knowing

@@ -91,6 +91,10 @@ pub record ListRoom (h : Accumulator) (k sparse pending scratch : ℕ) : Type 0 
   pub in-pending : h .«sparse_len» + h .«pending_len» + k ≤ pending
   pub in-scratch : h .«sparse_len» + h .«pending_len» + k ≤ scratch
 
+-- Where a list is said to be one that a merge can leave, it is.
+abbrev pub KnownDistinct : Bool → ℕ → ℕ → List ℕ → Type 0
+KnownDistinct known p s kept = known ≡ true → distinctSlots p s kept ≡ true
+
 -- Whether nothing waits and the values are inserted.
 abbrev pub insertsNow : ℕ → ℕ → Accumulator → List ℕ → ℕ → Bool
 insertsNow p s h kept k = eqb (h .«pending_len») 0 && (leb k 16 && leb (16 * k) (h .«sparse_len») && distinctSlots p s kept)

@@ -7,6 +7,7 @@ ghost use lib.ListN.{length, take};
 ghost use Rattle.wire.specs.State.{stateOf};
 ghost use Rattle.rollup.specs.Accumulator.{mem, fits as headFits};
 ghost use Rattle.rollup.specs.Adding.{acceptedAfter, Shows, AddPost};
+ghost use Rattle.rollup.specs.SparsePaths.{KnownDistinct};
 ghost use Rattle.rollup.specs.Accepting.{AcceptPre, decodedRefusal};
 use crate::accumulator::Accumulator;
 use crate::accumulator::Form;
@@ -44,8 +45,9 @@ fn accept(
     pending: &mut [u32],
     scratch: &mut [u32],
     k: usize,
+    distinct: bool,
 ) -> Accumulator
-    requires { ⌜ AcceptPre a (mem (now registers) (now sparse) (now pending)) (now scratch) (stateOf (now bytes) f) k ⌝ }
+    requires { ⌜ AcceptPre a (mem (now registers) (now sparse) (now pending)) (now scratch) (stateOf (now bytes) f) k × KnownDistinct distinct (a .precision) (a .«sparse_precision») (take (a .«sparse_len») (now sparse)) ⌝ }
     ensures { λ r. ⌜ Shows (acceptedAfter (a .form) a (mem (now (registers .entry)) (now (sparse .entry)) (now (pending .entry))) (stateOf (now (bytes .entry)) f) (take k (now (scratch .entry)))) r (mem (now (registers .exit)) (now (sparse .exit)) (now (pending .exit))) ⌝ }
 {
     let form = a.form;
@@ -60,21 +62,23 @@ fn accept(
             pending,
             scratch,
             k,
+            distinct,
         ),
         Form::Dense => dense_paths::accept_dense(a, f, bytes, registers, &scratch[..k]),
     }
 }
 
-// Questions 2 to 20, of a head that fits, and then the path.
-pub fn add_fitting(
+// Questions 2 to 20, of a head that fits, and then the path. `distinct` says that the values that are kept are known to be a list that a merge can leave.
+pub fn add_knowing(
     a: Accumulator,
     registers: &mut [u8],
     sparse: &mut [u32],
     pending: &mut [u32],
     scratch: &mut [u32],
     bytes: &[u8],
+    distinct: bool,
 ) -> Added
-    requires { ⌜ headFits a (mem (now registers) (now sparse) (now pending)) ≡ true ⌝ }
+    requires { ⌜ (headFits a (mem (now registers) (now sparse) (now pending)) ≡ true) × KnownDistinct distinct (a .precision) (a .«sparse_precision») (take (a .«sparse_len») (now sparse)) ⌝ }
     ensures { λ r. ⌜ AddPost a (mem (now (registers .entry)) (now (sparse .entry)) (now (pending .entry))) (length (now (scratch .entry))) (now (bytes .entry)) r (mem (now (registers .exit)) (now (sparse .exit)) (now (pending .exit))) ⌝ }
 {
     let judged = judging::judge(a, bytes);
@@ -105,8 +109,33 @@ pub fn add_fitting(
             head: a,
         };
     };
-    let head = accept(a, f, bytes, registers, sparse, pending, scratch, k);
+    let head = accept(
+        a,
+        f,
+        bytes,
+        registers,
+        sparse,
+        pending,
+        scratch,
+        k,
+        distinct,
+    );
     Added { answer: 0, head }
+}
+
+// The same where nothing more is known of the list.
+pub fn add_fitting(
+    a: Accumulator,
+    registers: &mut [u8],
+    sparse: &mut [u32],
+    pending: &mut [u32],
+    scratch: &mut [u32],
+    bytes: &[u8],
+) -> Added
+    requires { ⌜ headFits a (mem (now registers) (now sparse) (now pending)) ≡ true ⌝ }
+    ensures { λ r. ⌜ AddPost a (mem (now (registers .entry)) (now (sparse .entry)) (now (pending .entry))) (length (now (scratch .entry))) (now (bytes .entry)) r (mem (now (registers .exit)) (now (sparse .exit)) (now (pending .exit))) ⌝ }
+{
+    add_knowing(a, registers, sparse, pending, scratch, bytes, false)
 }
 
 // Adds a state to a roll-up: document 01's questions in their order, and then the path.

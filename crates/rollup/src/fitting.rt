@@ -45,7 +45,7 @@ fn sparse_range(p: u32, s: u32) -> bool
 }
 
 // Whether the precisions are those that a list can have.
-fn ranges_fit(p: u32, s: u32) -> bool
+pub(crate) fn ranges_fit(p: u32, s: u32) -> bool
     ensures { λ r. ⌜ r ≡ rangesFit p s ⌝ }
 {
     if !normal_range(p) {

@@ -10,5 +10,6 @@ pub mod dense_paths;
 pub mod fitting;
 pub mod header;
 pub mod judging;
+pub mod knowing;
 pub mod sparse_paths;
 pub mod writing;

@@ -15,7 +15,7 @@ ghost use Rattle.lists.specs.Registers.{withRegisters, zeros, raisedBy, larger,
 ghost use Rattle.rollup.specs.declared.accumulator.Form.the-variants.{Sparse as ListForm};
 ghost use Rattle.rollup.specs.Accumulator.{mem};
 ghost use Rattle.rollup.specs.Adding.{waits, sparseAfter, Ready, Shows};
-ghost use Rattle.rollup.specs.SparsePaths.{counted, listed, densed, settled, SettlePre, Leaves, WaitPre, ListReady, ListRoom, insertsNow, UnionPost, BackPre, JoinPre, mergedAfter, MergeSparsePre, SetListsPre, DensifyPre};
+ghost use Rattle.rollup.specs.SparsePaths.{counted, listed, densed, settled, SettlePre, Leaves, WaitPre, KnownDistinct, ListReady, ListRoom, insertsNow, UnionPost, BackPre, JoinPre, mergedAfter, MergeSparsePre, SetListsPre, DensifyPre};
 use crate::accumulator::Accumulator;
 use crate::accumulator::Form;
 use crate::fitting;
@@ -204,9 +204,10 @@ fn merge_all(
     merge_back(enc, sparse, n, &pending[..all], scratch)
 }
 
-// "With k ≤ 16 and 16 × k ≤ kept count, it is inserted", where nothing waits and the list is one that a merge can leave.
-fn inserts(h: Accumulator, enc: Sparse, kept: &[u32], k: usize) -> bool
-    requires { ⌜ SparseFits enc ⌝ }
+// "With k ≤ 16 and 16 × k ≤ kept count, it is inserted", where nothing waits and the list is one that a merge can leave. Where that is known, the list is
+// not walked.
+fn inserts(h: Accumulator, enc: Sparse, kept: &[u32], k: usize, distinct: bool) -> bool
+    requires { ⌜ SparseFits enc × KnownDistinct distinct (enc .«normal_precision») (enc .«sparse_precision») (now kept) ⌝ }
     ensures { λ r. ⌜ r ≡ insertsNow (enc .«normal_precision») (enc .«sparse_precision») h (now (kept .entry)) k ⌝ }
 {
     if h.pending_len != 0 {
@@ -217,6 +218,9 @@ fn inserts(h: Accumulator, enc: Sparse, kept: &[u32], k: usize) -> bool
     }
     if h.sparse_len < 16 * k {
         return false;
+    }
+    if distinct {
+        return true;
     }
     inserting::has_distinct_slots(enc, kept)
 }
@@ -229,12 +233,13 @@ fn union(
     pending: &mut [u32],
     scratch: &mut [u32],
     k: usize,
+    distinct: bool,
 ) -> Merged
-    requires { ⌜ SparseFits enc × ListReady (enc .«normal_precision») (enc .«sparse_precision») h (take (h .«sparse_len») (now sparse)) (take (h .«pending_len») (now pending)) (take k (now scratch)) × ListRoom h k (length (now sparse)) (length (now pending)) (length (now scratch)) ⌝ }
+    requires { ⌜ SparseFits enc × ListReady (enc .«normal_precision») (enc .«sparse_precision») h (take (h .«sparse_len») (now sparse)) (take (h .«pending_len») (now pending)) (take k (now scratch)) × ListRoom h k (length (now sparse)) (length (now pending)) (length (now scratch)) × KnownDistinct distinct (enc .«normal_precision») (enc .«sparse_precision») (take (h .«sparse_len») (now sparse)) ⌝ }
     ensures { λ r. ⌜ UnionPost (enc .«normal_precision») (enc .«sparse_precision») h (take (h .«sparse_len») (now (sparse .entry))) (take (h .«pending_len») (now (pending .entry))) (take k (now (scratch .entry))) r (now (sparse .exit)) ⌝ }
 {
     let n = h.sparse_len;
-    if inserts(h, enc, &sparse[..n], k) {
+    if inserts(h, enc, &sparse[..n], k, distinct) {
         return inserting::insert_dedupe(enc, sparse, n, &scratch[..k], h.sparse_bytes);
     }
     merge_all(enc, sparse, n, pending, h.pending_len, scratch, k)
@@ -248,15 +253,16 @@ fn merge_sparse(
     pending: &mut [u32],
     scratch: &mut [u32],
     k: usize,
+    distinct: bool,
 ) -> Accumulator
-    requires { ⌜ MergeSparsePre h (now registers) (now sparse) (now pending) (now scratch) k ⌝ }
+    requires { ⌜ MergeSparsePre h (now registers) (now sparse) (now pending) (now scratch) k × KnownDistinct distinct (h .precision) (h .«sparse_precision») (take (h .«sparse_len») (now sparse)) ⌝ }
     ensures { λ r. ⌜ Shows (mergedAfter h (mem (now (registers .entry)) (now (sparse .entry)) (now (pending .entry))) (take k (now (scratch .entry)))) r (mem (now (registers .exit)) (now (sparse .exit)) (now (pending .exit))) ⌝ }
 {
     if waits(h, k) {
         return wait(h, pending, &scratch[..], k);
     }
     let enc = Sparse::new(h.precision, h.sparse_precision);
-    let u = union(h, enc, sparse, pending, scratch, k);
+    let u = union(h, enc, sparse, pending, scratch, k, distinct);
     settle(h, enc, registers, &sparse[..u.len], u.bytes)
 }
 
@@ -270,8 +276,9 @@ pub(crate) fn accept_sparse(
     pending: &mut [u32],
     scratch: &mut [u32],
     k: usize,
+    distinct: bool,
 ) -> Accumulator
-    requires { ⌜ (a .form ≡ ListForm) × (k ≤ length (now scratch)) × Ready a (mem (now registers) (now sparse) (now pending)) (length (now scratch)) (stateOf (now bytes) f) (take k (now scratch)) ⌝ }
+    requires { ⌜ (a .form ≡ ListForm) × (k ≤ length (now scratch)) × Ready a (mem (now registers) (now sparse) (now pending)) (length (now scratch)) (stateOf (now bytes) f) (take k (now scratch)) × KnownDistinct distinct (a .precision) (a .«sparse_precision») (take (a .«sparse_len») (now sparse)) ⌝ }
     ensures { λ r. ⌜ Shows (sparseAfter a (mem (now (registers .entry)) (now (sparse .entry)) (now (pending .entry))) (stateOf (now (bytes .entry)) f) (take k (now (scratch .entry)))) r (mem (now (registers .exit)) (now (sparse .exit)) (now (pending .exit))) ⌝ }
 {
     let h = counted(a, header::allowed_types(f.value_type), f.num_values);
@@ -285,7 +292,7 @@ pub(crate) fn accept_sparse(
         );
     }
     if header::has_sparse_data(bytes, f) {
-        return merge_sparse(h, registers, sparse, pending, scratch, k);
+        return merge_sparse(h, registers, sparse, pending, scratch, k, distinct);
     }
     h
 }

@@ -15,7 +15,7 @@ slice-reshare-prefix-start : tie.Need-slice-reshare-prefix-start
 slice-reshare-prefix-start c = search needs
 
 slice-aggregate-start : tie.Need-slice-aggregate-start
-slice-aggregate-start c = sym (length-take-le (c .before .before .before .before .before .before .before .before .before .before .args .k) (now (c .before .before .before .before .before .before .before .before .before .before .args .scratch)) (c .before .before .before .before .before .before .before .before .before .before .pre .inside))
+slice-aggregate-start c = sym (length-take-le (c .before .before .before .before .before .before .before .before .before .before .args .k) (now (c .before .before .before .before .before .before .before .before .before .before .args .scratch)) (c .before .before .before .before .before .before .before .before .before .before .pre .0 .inside))
 
 start-requires : tie.Need-start-requires
 start-requires c κs = search needs
@@ -33,7 +33,7 @@ slice-reshare-prefix-accept-dense : tie.Need-slice-reshare-prefix-accept-dense
 slice-reshare-prefix-accept-dense c = search needs
 
 slice-aggregate-accept-dense : tie.Need-slice-aggregate-accept-dense
-slice-aggregate-accept-dense c = sym (length-take-le (c .before .before .before .before .before .before .before .before .before .args .k) (now (c .before .before .before .before .before .before .before .before .before .args .scratch)) (c .before .before .before .before .before .before .before .before .before .pre .inside))
+slice-aggregate-accept-dense c = sym (length-take-le (c .before .before .before .before .before .before .before .before .before .args .k) (now (c .before .before .before .before .before .before .before .before .before .args .scratch)) (c .before .before .before .before .before .before .before .before .before .pre .0 .inside))
 
 accept-dense-requires : tie.Need-accept-dense-requires
 accept-dense-requires c κs = search needs

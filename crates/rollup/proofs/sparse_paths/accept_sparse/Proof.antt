@@ -1,13 +1,15 @@
 -- What is known where the path begins (`known`) gives what each path requires; each leaves its case of the definition (`shows-data`, `shows-list`, `shows-none`).
 use Prim.Native.Nat.{ℕ}
-use mathlib.Core.Path.{refl, sym}
+use mathlib.Core.Path.{refl, sym, subst}
 use mathlib.Core.List.{List}
 use denote.Ref.{now}
 use lib.ListN.{length, take}
 use lib.Seq.{length-take-le}
 use Rattle.wire.specs.State.{State, stateOf}
 use Rattle.rollup.specs.Header.{dataOf, listOf}
+use Rattle.rollup.specs.declared.accumulator.Accumulator.{Accumulator}
 use Rattle.rollup.specs.Accumulator.{Mem, mem}
+use Rattle.rollup.specs.SparsePaths.{KnownDistinct}
 use Rattle.rollup.proofs.SparseLaws.{SparseKnown, known, counted-by, bytes-there, bytes-none, data-pre, list-pre, shows-data, shows-none, shows-list}
 use borrow.Author.Needs.{needs}
 use Rattle.rollup.proofs.sparse_paths.accept_sparse.Statement.{statement}
@@ -77,8 +79,9 @@ has-sparse-data-requires c κs = search needs
 merge-sparse-requires : tie.Need-merge-sparse-requires
 merge-sparse-requires c κs =
     let o = c .before .before .before .before .before .before .before .before .before .before .before .before .before .before .before in
-    list-pre (known-at o) (bytes-there (listOf (st o)) (c .before .before .before .before .before .has-sparse-data .result) (c .before .before .before .before .before .has-sparse-data .ensures) (c .before .before .before .before .if2 .taken)) (o .args .k) (now (o .args .scratch)) (o .pre .1) refl refl (c .before .before .before .before .before .before .before .before .counted .result)
-    (counted-by (o .args .a) (m o) (st o) (c .before .before .before .before .before .before .before .before .counted .result) (c .before .before .before .before .before .before .before .before .before .allowed-types .result) (c .before .before .before .before .before .before .before .before .before .allowed-types .ensures) (c .before .before .before .before .before .before .before .before .counted .ensures))
+    let h = c .before .before .before .before .before .before .before .before .counted .result in
+    let e = counted-by (o .args .a) (m o) (st o) (c .before .before .before .before .before .before .before .before .counted .result) (c .before .before .before .before .before .before .before .before .before .allowed-types .result) (c .before .before .before .before .before .before .before .before .before .allowed-types .ensures) (c .before .before .before .before .before .before .before .before .counted .ensures) in
+    (list-pre (known-at o) (bytes-there (listOf (st o)) (c .before .before .before .before .before .has-sparse-data .result) (c .before .before .before .before .before .has-sparse-data .ensures) (c .before .before .before .before .if2 .taken)) (o .args .k) (now (o .args .scratch)) (o .pre .1) refl refl h e, subst (λ (x : Accumulator). KnownDistinct (o .args .distinct) (x .precision) (x .«sparse_precision») (take (x .«sparse_len») (now (o .args .sparse)))) (sym e) (o .pre .3))
 
 same-length-4 : tie.Need-same-length-4
 same-length-4 c = search needs

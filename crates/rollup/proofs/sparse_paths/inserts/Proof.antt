@@ -1,4 +1,6 @@
 -- The four questions, in order (`insert-waiting` to `insert-slots`).
+use mathlib.Core.Path.{sym}
+use mathlib.Core.Bool.{true}
 use denote.Ref.{now}
 use Rattle.rollup.proofs.SparseLaws.{insert-waiting, insert-many, insert-short, insert-slots}
 use borrow.Author.Needs.{needs}
@@ -23,14 +25,20 @@ returns-3 c =
     let a = c .before .before .before .before .before .before .args in
     insert-short (a .enc .«normal_precision») (a .enc .«sparse_precision») (a .h) (now (a .kept)) (a .k) (c .before .before .before .if1 .left) (c .before .before .if2 .left) (c .if3 .taken)
 
+returns-4 : tie.Need-returns-4
+returns-4 c =
+    let o = c .before .before .before .before .before .before .before in
+    let a = o .args in
+    insert-slots (a .enc .«normal_precision») (a .enc .«sparse_precision») (a .h) (now (a .kept)) (a .k) (c .before .before .before .before .if1 .left) (c .before .before .before .if2 .left) (c .before .if3 .left) true (sym (o .pre .1 (c .if4 .taken)))
+
 has-distinct-slots-requires : tie.Need-has-distinct-slots-requires
 has-distinct-slots-requires c κs = search needs
 
-returns-4 : tie.Need-returns-4
-returns-4 c =
-    let a = c .before .before .before .before .before .before .before .args in
-    insert-slots (a .enc .«normal_precision») (a .enc .«sparse_precision») (a .h) (now (a .kept)) (a .k) (c .before .before .before .before .if1 .left) (c .before .before .before .if2 .left) (c .before .if3 .left) (c .has-distinct-slots .result) (c .has-distinct-slots .ensures)
+returns-5 : tie.Need-returns-5
+returns-5 c =
+    let a = c .before .before .before .before .before .before .before .before .args in
+    insert-slots (a .enc .«normal_precision») (a .enc .«sparse_precision») (a .h) (now (a .kept)) (a .k) (c .before .before .before .before .before .if1 .left) (c .before .before .before .before .if2 .left) (c .before .before .if3 .left) (c .has-distinct-slots .result) (c .has-distinct-slots .ensures)
 
 pub inserts-spec : {M : Type 1} → statement M
 inserts-spec =
-    tie.close (tie.spec returns returns-2 mul-if3 returns-3 has-distinct-slots-requires returns-4)
+    tie.close (tie.spec returns returns-2 mul-if3 returns-3 returns-4 has-distinct-slots-requires returns-5)

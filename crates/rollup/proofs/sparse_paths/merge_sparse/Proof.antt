@@ -1,8 +1,11 @@
 -- The values wait (`waited`), or all are one list, which is settled (`merged-shows`).
+use Prim.Native.Nat.{ℕ}
 use mathlib.Core.Path.{sym}
 use denote.Ref.{now}
+use lib.ListN.{take}
 use lib.Seq.{length-take-le}
-use Rattle.rollup.proofs.SparseLaws.{wait-pre, waited, enc-ready, union-inside, settle-pre, merged-shows}
+use Rattle.rollup.specs.SparsePaths.{KnownDistinct}
+use Rattle.rollup.proofs.SparseLaws.{of-pair, wait-pre, waited, enc-ready, union-inside, settle-pre, merged-shows}
 use borrow.Author.Needs.{needs}
 use Rattle.rollup.proofs.sparse_paths.merge_sparse.Statement.{statement}
 use Rattle.rollup.proofs.sparse_paths.merge_sparse.Tie as tie
@@ -11,7 +14,7 @@ waits-requires : tie.Need-waits-requires
 waits-requires c κs =
     let o = c .before .before .before .before in
     let a = o .args in
-    wait-pre (a .h) (now (a .registers)) (now (a .sparse)) (now (a .pending)) (now (a .scratch)) (a .k) (o .pre)
+    wait-pre (a .h) (now (a .registers)) (now (a .sparse)) (now (a .pending)) (now (a .scratch)) (a .k) (o .pre .0)
 
 wait-requires : tie.Need-wait-requires
 wait-requires c κs = search needs
@@ -26,7 +29,7 @@ returns : tie.Need-returns
 returns c =
     let o = c .before .before .before .before .before .before .before .before .before .before .before in
     let a = o .args in
-    waited (a .h) (now (a .registers)) (now (a .sparse)) (now (a .pending)) (now (a .scratch)) (a .k) (o .pre) (c .before .before .before .before .before .before .waits .result) (c .before .before .wait .result) _ (c .before .before .before .before .before .before .waits .ensures) (c .before .before .before .before .before .if1 .taken) (c .before .before .wait .ensures .0) (c .before .before .wait .ensures .1)
+    waited (a .h) (now (a .registers)) (now (a .sparse)) (now (a .pending)) (now (a .scratch)) (a .k) (o .pre .0) (c .before .before .before .before .before .before .waits .result) (c .before .before .wait .result) _ (c .before .before .before .before .before .before .waits .ensures) (c .before .before .before .before .before .if1 .taken) (c .before .before .wait .ensures .0) (c .before .before .wait .ensures .1)
 
 new-requires : tie.Need-new-requires
 new-requires c κs = search needs
@@ -35,13 +38,13 @@ union-requires : tie.Need-union-requires
 union-requires c κs =
     let o = c .before .before .before .before .before .before .before .before .before .before in
     let a = o .args in
-    (c .before .before .before .new .ensures .fits, enc-ready (a .h) (now (a .registers)) (now (a .sparse)) (now (a .pending)) (now (a .scratch)) (a .k) (o .pre) (c .before .before .before .new .result) (c .before .before .before .new .ensures), o .pre .room)
+    (c .before .before .before .new .ensures .fits, enc-ready (a .h) (now (a .registers)) (now (a .sparse)) (now (a .pending)) (now (a .scratch)) (a .k) (o .pre .0) (c .before .before .before .new .result) (c .before .before .before .new .ensures), o .pre .0 .room, of-pair (c .before .before .before .new .ensures) (λ (p s : ℕ). KnownDistinct (a .distinct) p s (take (a .h .«sparse_len») (now (a .sparse)))) (o .pre .1))
 
 slice-reshare-prefix-settle : tie.Need-slice-reshare-prefix-settle
 slice-reshare-prefix-settle c =
     let o = c .before .before .before .before .before .before .before .before .before .before .before .before .before .before .before .before .before .before in
     let a = o .args in
-    union-inside (a .h) (now (a .registers)) (now (a .sparse)) (now (a .pending)) (now (a .scratch)) (a .k) (o .pre) (c .before .before .before .before .before .before .before .before .before .before .before .new .result) (c .before .before .before .before .before .before .before .before .before .before .before .new .ensures) (c .before .before .before .before .before .before .before .union .result) _ (c .before .before .before .before .before .before .before .union .ensures) (c .before .before .before .before .before .before .before .union .kept .1 .1 .0)
+    union-inside (a .h) (now (a .registers)) (now (a .sparse)) (now (a .pending)) (now (a .scratch)) (a .k) (o .pre .0) (c .before .before .before .before .before .before .before .before .before .before .before .new .result) (c .before .before .before .before .before .before .before .before .before .before .before .new .ensures) (c .before .before .before .before .before .before .before .union .result) _ (c .before .before .before .before .before .before .before .union .ensures) (c .before .before .before .before .before .before .before .union .kept .1 .1 .0)
 
 slice-aggregate-settle : tie.Need-slice-aggregate-settle
 slice-aggregate-settle c =
@@ -49,13 +52,13 @@ slice-aggregate-settle c =
     let a = o .args in
     sym
     (length-take-le _ _
-    (union-inside (a .h) (now (a .registers)) (now (a .sparse)) (now (a .pending)) (now (a .scratch)) (a .k) (o .pre) (c .before .before .before .before .before .before .before .before .before .before .before .before .new .result) (c .before .before .before .before .before .before .before .before .before .before .before .before .new .ensures) (c .before .before .before .before .before .before .before .before .union .result) _ (c .before .before .before .before .before .before .before .before .union .ensures) (c .before .before .before .before .before .before .before .before .union .kept .1 .1 .0)))
+    (union-inside (a .h) (now (a .registers)) (now (a .sparse)) (now (a .pending)) (now (a .scratch)) (a .k) (o .pre .0) (c .before .before .before .before .before .before .before .before .before .before .before .before .new .result) (c .before .before .before .before .before .before .before .before .before .before .before .before .new .ensures) (c .before .before .before .before .before .before .before .before .union .result) _ (c .before .before .before .before .before .before .before .before .union .ensures) (c .before .before .before .before .before .before .before .before .union .kept .1 .1 .0)))
 
 settle-requires : tie.Need-settle-requires
 settle-requires c κs =
     let o = c .before .before .before .before .before .before .before .before .before .before .before .before .before .before .before .before .before .before .before in
     let a = o .args in
-    settle-pre (a .h) (now (a .registers)) (now (a .sparse)) (now (a .pending)) (now (a .scratch)) (a .k) (o .pre) (c .before .before .before .before .before .before .before .before .before .before .before .before .new .result) (c .before .before .before .before .before .before .before .before .before .before .before .before .new .ensures) (c .before .before .before .before .before .before .before .before .union .result) _ (c .before .before .before .before .before .before .before .before .union .ensures)
+    settle-pre (a .h) (now (a .registers)) (now (a .sparse)) (now (a .pending)) (now (a .scratch)) (a .k) (o .pre .0) (c .before .before .before .before .before .before .before .before .before .before .before .before .new .result) (c .before .before .before .before .before .before .before .before .before .before .before .before .new .ensures) (c .before .before .before .before .before .before .before .before .union .result) _ (c .before .before .before .before .before .before .before .before .union .ensures)
 
 same-length-3 : tie.Need-same-length-3
 same-length-3 c = search needs
@@ -73,7 +76,7 @@ returns-2 : tie.Need-returns-2
 returns-2 c =
     let o = c .before .before .before .before .before .before .before .before .before .before .before .before .before .before .before .before .before .before .before .before .before .before in
     let a = o .args in
-    merged-shows (a .h) (now (a .registers)) (now (a .sparse)) (now (a .pending)) (now (a .scratch)) (a .k) (o .pre) (c .before .before .before .before .before .before .before .before .before .before .before .before .before .before .before .new .result) (c .before .before .before .before .before .before .before .before .before .before .before .before .before .before .before .new .ensures) (c .before .before .before .before .before .before .before .before .before .before .before .union .result) _ (c .before .before .before .before .before .before .before .before .before .before .before .union .ensures) (c .before .before .before .before .before .before .before .before .before .before .before .before .before .before .before .before .before .waits .result) (c .before .before .settle .result) _ _ (c .before .before .before .before .before .before .before .before .before .before .before .before .before .before .before .before .before .waits .ensures) (c .before .before .before .before .before .before .before .before .before .before .before .before .before .before .before .before .if1 .left) (c .before .before .settle .ensures)
+    merged-shows (a .h) (now (a .registers)) (now (a .sparse)) (now (a .pending)) (now (a .scratch)) (a .k) (o .pre .0) (c .before .before .before .before .before .before .before .before .before .before .before .before .before .before .before .new .result) (c .before .before .before .before .before .before .before .before .before .before .before .before .before .before .before .new .ensures) (c .before .before .before .before .before .before .before .before .before .before .before .union .result) _ (c .before .before .before .before .before .before .before .before .before .before .before .union .ensures) (c .before .before .before .before .before .before .before .before .before .before .before .before .before .before .before .before .before .waits .result) (c .before .before .settle .result) _ _ (c .before .before .before .before .before .before .before .before .before .before .before .before .before .before .before .before .before .waits .ensures) (c .before .before .before .before .before .before .before .before .before .before .before .before .before .before .before .before .if1 .left) (c .before .before .settle .ensures)
 
 pub merge-sparse-spec : {M : Type 1} → statement M
 merge-sparse-spec =

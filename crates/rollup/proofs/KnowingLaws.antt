@@ -1,0 +1,164 @@
+-- What is known of the list that is kept is so after each call: a merge leaves one that a merge can leave, and nothing else changes it but the first state and
+-- data.
+use Prim.Native.Nat.{ℕ, _+_, _<_, _≤_}
+use mathlib.Core.Path.{_≡_, refl, sym, ap, ap₂, _∙_, subst}
+use mathlib.Core.List.{List, _++_}
+use mathlib.Core.Bool.{Bool, true, false, cond, _&&_, not, true≢false}
+use mathlib.Core.Logic.{⊎-elim}
+use native.Mathlib.Omega.{arith}
+use lib.Dec.{ltb, leb, eqb}
+use lib.ListN.{length, take}
+use borrow.Author.Tests.{le-leb, lt-leb, eq-eqb, ne-eqb, eqb-true, eqb-false}
+use Rattle.wire.specs.State.{State}
+use Rattle.wire.proofs.BoolLaws.{both-true}
+use Rattle.lists.specs.declared.values.Sparse.{Sparse as Encoding}
+use Rattle.lists.specs.Values.{NewPost}
+use Rattle.lists.specs.Lists.{merged, written, distinctSlots}
+use Rattle.lists.proofs.MergeLaws.{merged-distinct}
+use Rattle.rollup.specs.declared.accumulator.Form.{Form}
+use Rattle.rollup.specs.declared.accumulator.Form.the-variants.{Unstarted, Sparse, Dense}
+use Rattle.rollup.specs.declared.accumulator.Accumulator.{Accumulator}
+use Rattle.rollup.specs.declared.adding.Added.{Added}
+use Rattle.rollup.specs.Accumulator.{Mem, keptOf, waitingOf, limit, fits}
+use Rattle.rollup.specs.Header.{dataOf, listOf, isEmpty}
+use Rattle.rollup.specs.Adding.{After, unchanged, settle, waits, inserts, listAfter, sparseAfter, acceptedAfter, Shows, AddPost}
+use Rattle.rollup.specs.Calls.{stateIn, valuesIn}
+use Rattle.rollup.specs.Fitting.{rangesFit}
+use Rattle.rollup.specs.SparsePaths.{KnownDistinct}
+use Rattle.rollup.specs.Knowing.{listDistinct, keptDistinct, listStill, stillDistinct}
+use Rattle.rollup.proofs.SparseLaws.{at-pair}
+use Rattle.rollup.proofs.KeepsLaws.{either}
+use Rattle.rollup.proofs.ViewLaws.{IsRefused, IsAccepted, add-view}
+
+-- A list that was looked at.
+pub kept-known : (f : Form) (a : Accumulator) (sparse : List ℕ) → KnownDistinct (keptDistinct f a sparse) (a .precision) (a .«sparse_precision») (take (a .«sparse_len») sparse)
+kept-known Unstarted a sparse e = absurd (true≢false (sym e))
+kept-known Sparse a sparse e =
+    both-true (rangesFit (a .precision) (a .«sparse_precision») && leb (a .«sparse_len») (length sparse))
+    (distinctSlots (a .precision) (a .«sparse_precision») (take (a .«sparse_len») sparse)) e .1
+kept-known Dense a sparse e = absurd (true≢false (sym e))
+
+-- ---- the code's questions
+
+module _ (a : Accumulator) (sparse : List ℕ) where
+  abbrev ranges : Bool
+  ranges = rangesFit (a .precision) (a .«sparse_precision»)
+
+  abbrev slots : Bool
+  slots = distinctSlots (a .precision) (a .«sparse_precision») (take (a .«sparse_len») sparse)
+
+  pub asked-ranges : ranges ≡ false → false ≡ listDistinct a sparse
+  asked-ranges e = sym (ap (λ (b : Bool). b && leb (a .«sparse_len») (length sparse) && slots) e)
+
+  pub asked-inside : ranges ≡ true → length sparse < a .«sparse_len» → false ≡ listDistinct a sparse
+  asked-inside e h = sym (ap (λ (b : Bool). b && leb (a .«sparse_len») (length sparse) && slots) e ∙ ap (λ (b : Bool). b && slots) (lt-leb (a .«sparse_len») (length sparse) h))
+
+  pub asked-slots : ranges ≡ true → a .«sparse_len» ≤ length sparse → (enc : Encoding) → NewPost (a .precision) (a .«sparse_precision») enc
+      → (r : Bool) → r ≡ distinctSlots (enc .«normal_precision») (enc .«sparse_precision») (take (a .«sparse_len») sparse) → r ≡ listDistinct a sparse
+  asked-slots e h enc new r f =
+      at-pair new (λ (p s : ℕ). r ≡ distinctSlots p s (take (a .«sparse_len») sparse)) f
+      ∙ sym (ap (λ (b : Bool). b && leb (a .«sparse_len») (length sparse) && slots) e ∙ ap (λ (b : Bool). b && slots) (le-leb (a .«sparse_len») (length sparse) h))
+
+  pub by-kept-form : (f g : Form) → f ≡ g → (r : Bool) → r ≡ keptDistinct g a sparse → r ≡ keptDistinct f a sparse
+  by-kept-form f g e r h = h ∙ ap (λ (x : Form). keptDistinct x a sparse) (sym e)
+
+module _ (before after : ℕ) (known : Bool) where
+  pub by-list-form : (f g : Form) → f ≡ g → (r : Bool) → r ≡ listStill g before after known → r ≡ listStill f before after known
+  by-list-form f g e r h = h ∙ ap (λ (x : Form). listStill x before after known) (sym e)
+
+  pub some-wait : (after ≡ 0 → ⊥) → known ≡ listStill Sparse before after known
+  some-wait h = sym (ap (λ (b : Bool). cond (b && not (eqb before 0)) true known) (ne-eqb after 0 h))
+
+  pub none-waited : after ≡ 0 → before ≡ 0 → known ≡ listStill Sparse before after known
+  none-waited h e = sym (ap₂ (λ (b c : Bool). cond (b && not c) true known) (eq-eqb after 0 h) (eq-eqb before 0 e))
+
+  pub all-merged : after ≡ 0 → (before ≡ 0 → ⊥) → true ≡ listStill Sparse before after known
+  all-merged h e = sym (ap₂ (λ (b c : Bool). cond (b && not c) true known) (eq-eqb after 0 h) (ne-eqb before 0 e))
+
+pub by-form : (before after : Accumulator) (sparse : List ℕ) (known : Bool) (f g : Form) → f ≡ g → (r : Bool) → r ≡ stillDistinct g before after sparse known
+    → r ≡ stillDistinct f before after sparse known
+by-form before after sparse known f g e r h = h ∙ ap (λ (x : Form). stillDistinct x before after sparse known) (sym e)
+
+-- ---- from one call to the next
+
+module _ (a : Accumulator) (m : Mem) (known : Bool) (is : KnownDistinct known (a .precision) (a .«sparse_precision») (keptOf a m)) where
+  -- What is known of what a call is to leave.
+  abbrev Still : After → Type 0
+  Still x =
+      KnownDistinct (listStill (x .head .form) (a .«pending_len») (x .head .«pending_len») known) (x .head .precision) (x .head .«sparse_precision») (x .kept)
+
+  -- Where as many values wait as before, or more, nothing was merged.
+  as-before : (k : ℕ) → cond (eqb (a .«pending_len» + k) 0 && not (eqb (a .«pending_len») 0)) true known ≡ true → known ≡ true
+  as-before k = pick (eqb (a .«pending_len» + k) 0) (eqb (a .«pending_len») 0) refl refl
+    where
+      pick : (x y : Bool) → eqb (a .«pending_len» + k) 0 ≡ x → eqb (a .«pending_len») 0 ≡ y → cond (x && not y) true known ≡ true → known ≡ true
+      pick true true f g e = e
+      pick true false f g e =
+          absurd (eqb-false (a .«pending_len») 0 g (let z : a .«pending_len» ≡ 0 = omega (arith, eqb-true (a .«pending_len» + k) 0 f) in z))
+      pick false y f g e = e
+
+  same-before : cond (eqb (a .«pending_len») 0 && not (eqb (a .«pending_len») 0)) true known ≡ true → known ≡ true
+  same-before = pick (eqb (a .«pending_len») 0)
+    where
+      pick : (x : Bool) → cond (x && not x) true known ≡ true → known ≡ true
+      pick true e = e
+      pick false e = e
+
+  still-settle : (st : State) (l : List ℕ) (bytes : ℕ) → distinctSlots (a .precision) (a .«sparse_precision») l ≡ true → Still (settle a m st l bytes)
+  unfolding settle
+  still-settle st l bytes e =
+      either Still (ltb bytes (limit (a .precision))) _ _ (λ (t : ltb bytes (limit (a .precision)) ≡ true) f. e)
+      (λ (t : ltb bytes (limit (a .precision)) ≡ false) (f : false ≡ true). absurd (true≢false (sym f)))
+
+  still-merged : (st : State) (l : List ℕ) (bytes : ℕ) → Still (settle a m st (merged (a .precision) (a .«sparse_precision») (keptOf a m) l) bytes)
+  still-merged st l bytes =
+      still-settle st (merged (a .precision) (a .«sparse_precision») (keptOf a m) l) bytes (merged-distinct (a .precision) (a .«sparse_precision») (keptOf a m) l)
+
+  still-list : (st : State) (vs : List ℕ) → Still (listAfter a m st vs)
+  unfolding listAfter
+  still-list st vs =
+      either Still (waits a (length vs)) _ _ (λ (t : waits a (length vs) ≡ true) e. is (as-before (length vs) e))
+      (λ (t : waits a (length vs) ≡ false).
+      either Still (not (eqb (a .«pending_len») 0)) _ _ (λ (u : not (eqb (a .«pending_len») 0) ≡ true). still-merged st (waitingOf a m ++ vs) _)
+      (λ (u : not (eqb (a .«pending_len») 0) ≡ false).
+      either Still (inserts a m (length vs)) _ _ (λ (w : inserts a m (length vs) ≡ true). still-merged st vs _)
+      (λ (w : inserts a m (length vs) ≡ false). still-merged st vs _)))
+
+  still-sparse : (st : State) (vs : List ℕ) → Still (sparseAfter a m st vs)
+  unfolding sparseAfter
+  still-sparse st vs =
+      either Still (isEmpty (dataOf st)) _ _
+      (λ (t : isEmpty (dataOf st) ≡ true).
+      either Still (isEmpty (listOf st)) _ _ (λ (u : isEmpty (listOf st) ≡ true) e. is (same-before e))
+      (λ (u : isEmpty (listOf st) ≡ false). still-list st vs))
+      (λ (t : isEmpty (dataOf st) ≡ false) (f : false ≡ true). absurd (true≢false (sym f)))
+
+  -- And so of what it left.
+  of-shows : (x : After) (r : Accumulator) (n : Mem) → Shows x r n → Still x
+      → KnownDistinct (listStill (r .form) (a .«pending_len») (r .«pending_len») known) (r .precision) (r .«sparse_precision») (keptOf r n)
+  of-shows x r n sh s =
+      subst (λ (l : List ℕ). KnownDistinct (listStill (r .form) (a .«pending_len») (r .«pending_len») known) (r .precision) (r .«sparse_precision») l) (sym (sh .kept))
+      (subst (λ (h : Accumulator). KnownDistinct (listStill (h .form) (a .«pending_len») (h .«pending_len») known) (h .precision) (h .«sparse_precision») (x .kept)) (sym (sh .head)) s)
+
+  module _ (room : ℕ) (bytes : List ℕ) (r : Added) (n : Mem) (fit : fits a m ≡ true) (post : AddPost a m room bytes r n) where
+    still-list-form : a .form ≡ Sparse
+        → KnownDistinct (listStill (r .head .form) (a .«pending_len») (r .head .«pending_len») known) (r .head .precision) (r .head .«sparse_precision») (keptOf (r .head) n)
+    still-list-form f =
+        ⊎-elim
+        (λ (v : IsRefused a m r n).
+        of-shows (unchanged a m) (r .head) n (v .same)
+        (subst (λ (g : Form). KnownDistinct (listStill g (a .«pending_len») (a .«pending_len») known) (a .precision) (a .«sparse_precision») (keptOf a m)) (sym f)
+        (λ e. is (same-before e))))
+        (λ (v : IsAccepted a m room bytes r n).
+        of-shows (sparseAfter a m (stateIn bytes) (valuesIn (stateIn bytes))) (r .head) n
+        (subst (λ (g : Form). Shows (acceptedAfter g a m (stateIn bytes) (valuesIn (stateIn bytes))) (r .head) n) f (v .shows))
+        (still-sparse (stateIn bytes) (valuesIn (stateIn bytes))))
+        (add-view a m room bytes r n fit post)
+
+    pub still-known : KnownDistinct (stillDistinct (a .form) a (r .head) (n .sparse) known) (r .head .precision) (r .head .«sparse_precision») (keptOf (r .head) n)
+    still-known = of-form (a .form) refl
+      where
+        of-form : (f : Form) → a .form ≡ f → KnownDistinct (stillDistinct f a (r .head) (n .sparse) known) (r .head .precision) (r .head .«sparse_precision») (keptOf (r .head) n)
+        of-form Unstarted e = kept-known (r .head .form) (r .head) (n .sparse)
+        of-form Sparse e = still-list-form e
+        of-form Dense e = λ (f : false ≡ true). absurd (true≢false (sym f))

@@ -1,0 +1,37 @@
+-- What a loop over many states may know of the list that is kept, from one call to the next: that it is one that a merge can leave. It saves a walk over the list
+-- where a few values are inserted, and changes no answer.
+use mathlib.Core.List.{List}
+use mathlib.Core.Bool.{Bool, true, false, cond, _&&_, not}
+use Prim.Native.Nat.{ℕ}
+use lib.Dec.{leb, eqb}
+use lib.ListN.{length, take}
+use Rattle.lists.specs.Lists.{distinctSlots}
+use Rattle.rollup.specs.declared.accumulator.Form.{Form}
+use Rattle.rollup.specs.declared.accumulator.Form.the-variants.{Unstarted, Sparse, Dense}
+use Rattle.rollup.specs.declared.accumulator.Accumulator.{Accumulator}
+use Rattle.rollup.specs.Fitting.{rangesFit}
+
+-- Looking at the list. Of one that cannot be looked at nothing is known.
+abbrev pub listDistinct : Accumulator → List ℕ → Bool
+listDistinct a sparse =
+    rangesFit (a .precision) (a .«sparse_precision»)
+    && leb (a .«sparse_len») (length sparse)
+    && distinctSlots (a .precision) (a .«sparse_precision») (take (a .«sparse_len») sparse)
+
+abbrev pub keptDistinct : Form → Accumulator → List ℕ → Bool
+keptDistinct Unstarted a sparse = false
+keptDistinct Sparse a sparse = listDistinct a sparse
+keptDistinct Dense a sparse = false
+
+-- After a call at a list roll-up, by the form that it left and how many values waited before and after: where values waited and none do, all were merged; else
+-- what was known stays so.
+abbrev pub listStill : Form → ℕ → ℕ → Bool → Bool
+listStill Unstarted before after known = false
+listStill Sparse before after known = cond (eqb after 0 && not (eqb before 0)) true known
+listStill Dense before after known = false
+
+-- After any call. The list of the first state is looked at.
+abbrev pub stillDistinct : Form → Accumulator → Accumulator → List ℕ → Bool → Bool
+stillDistinct Unstarted before after sparse known = keptDistinct (after .form) after sparse
+stillDistinct Sparse before after sparse known = listStill (after .form) (before .«pending_len») (after .«pending_len») known
+stillDistinct Dense before after sparse known = false

@@ -1,0 +1,65 @@
+// What a loop over many states knows of the list that is kept, from one call to the next: that it is one that a merge can leave, so that a few values can be
+// inserted without a walk over it. New: the Rust inserts without looking (document 01, "Difference").
+ghost use mathlib.Core.Path.{_≡_};
+ghost use Rattle.rollup.specs.Knowing.{listDistinct, keptDistinct, listStill, stillDistinct};
+use crate::accumulator::Accumulator;
+use crate::accumulator::Form;
+use crate::fitting;
+use lists::inserting;
+use lists::values::Sparse;
+
+fn list_distinct(a: Accumulator, sparse: &[u32]) -> bool
+    ensures { λ r. ⌜ r ≡ listDistinct a (now (sparse .entry)) ⌝ }
+{
+    if !fitting::ranges_fit(a.precision, a.sparse_precision) {
+        return false;
+    }
+    if sparse.len() < a.sparse_len {
+        return false;
+    }
+    let enc = Sparse::new(a.precision, a.sparse_precision);
+    inserting::has_distinct_slots(enc, &sparse[..a.sparse_len])
+}
+
+// Looks at the list.
+pub fn kept_distinct(a: Accumulator, sparse: &[u32]) -> bool
+    ensures { λ r. ⌜ r ≡ keptDistinct (a .form) a (now (sparse .entry)) ⌝ }
+{
+    let form = a.form;
+    match form {
+        Form::Unstarted => false,
+        Form::Sparse => list_distinct(a, sparse),
+        Form::Dense => false,
+    }
+}
+
+fn list_still(form: Form, before: usize, after: usize, known: bool) -> bool
+    ensures { λ r. ⌜ r ≡ listStill form before after known ⌝ }
+{
+    match form {
+        Form::Unstarted => false,
+        Form::Sparse => {
+            if after != 0 {
+                return known;
+            }
+            if before == 0 {
+                return known;
+            }
+            true
+        }
+        Form::Dense => false,
+    }
+}
+
+// What is known after a call, by the heads before and after it.
+pub fn still_distinct(before: Accumulator, after: Accumulator, sparse: &[u32], known: bool) -> bool
+    ensures { λ r. ⌜ r ≡ stillDistinct (before .form) before after (now (sparse .entry)) known ⌝ }
+{
+    let form = before.form;
+    let left = after.form;
+    match form {
+        Form::Unstarted => kept_distinct(after, sparse),
+        Form::Sparse => list_still(left, before.pending_len, after.pending_len, known),
+        Form::Dense => false,
+    }
+}
