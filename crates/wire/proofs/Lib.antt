@@ -8,3 +8,4 @@ pub mod EncodingLaws
 pub mod BoundLaws
 pub mod FieldLaws
 pub mod RoundTrip
+pub mod SmallListLaws

@@ -18,6 +18,7 @@ use crate::fields::skip;
 use crate::fields::skipped_refusal;
 use crate::fields::tag_refusal;
 use crate::fields::taken_refusal;
+use crate::small_list::parse_small_list;
 use crate::varint::Cursor;
 use crate::varint::Varint;
 use crate::varint::read_varint;
@@ -338,8 +339,8 @@ pub fn parse_general(s: &[u8]) -> Parsed
     Parsed::Read(f)
 }
 
-// The fields of a state, or document 01's number of the first refusal in byte order. The compact layout is tried first.
-pub fn parse(s: &[u8]) -> Parsed
+// Any layout, the compact one first.
+fn compact_or_general(s: &[u8]) -> Parsed
     ensures { λ r. ⌜ ParsePost (now (s .entry)) r ⌝ }
 {
     let r = parse_compact(s);
@@ -347,6 +348,29 @@ pub fn parse(s: &[u8]) -> Parsed
         return parse_general(s);
     };
     Parsed::Read(f)
+}
+
+// Any layout, that of a small list first.
+fn parse_short(s: &[u8]) -> Parsed
+    ensures { λ r. ⌜ ParsePost (now (s .entry)) r ⌝ }
+{
+    let r = parse_small_list(s);
+    let Compact::Read(f) = r else {
+        return compact_or_general(s);
+    };
+    Parsed::Read(f)
+}
+
+// The fields of a state, or document 01's number of the first refusal in byte order. In a state of more than 256 bytes some length has
+// two bytes, where the quicker readers would give up.
+pub fn parse(s: &[u8]) -> Parsed
+    ensures { λ r. ⌜ ParsePost (now (s .entry)) r ⌝ }
+{
+    if 256 < s.len() {
+        parse_general(s)
+    } else {
+        parse_short(s)
+    }
 }
 
 // The bytes of a data field, as the part of the state's bytes that holds it.

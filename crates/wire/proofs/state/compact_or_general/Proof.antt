@@ -1,7 +1,7 @@
 -- Where the compact reader answers, it answers as `parse` must. Everything else is left to the general reader.
 use borrow.Author.Needs.{needs}
-use Rattle.wire.proofs.state.parse.Statement.{statement}
-use Rattle.wire.proofs.state.parse.Tie as tie
+use Rattle.wire.proofs.state.compact_or_general.Statement.{statement}
+use Rattle.wire.proofs.state.compact_or_general.Tie as tie
 
 parse-compact-requires : tie.Need-parse-compact-requires
 parse-compact-requires c κs = search needs
@@ -21,8 +21,8 @@ returns c = search needs
 returns-2 : tie.Need-returns-2
 returns-2 c = rw (c .before .r .given .1) at (c .before .before .before .parse-compact .ensures)
 
-pub parse-spec : {M : Type 1} → statement M
-parse-spec =
+pub compact-or-general-spec : {M : Type 1} → statement M
+compact-or-general-spec =
     tie.close
     (tie.spec
     parse-compact-requires
