@@ -22,9 +22,24 @@ use Rattle.wire.proofs.EncodingLaws.{signed-small}
 use Rattle.wire.proofs.FieldLaws.{Reads, reads-message, Leads, leads-reads, leads-int32}
 use Rattle.wire.proofs.RoundTrip.{hllWith, sparse-data-leads, stateWith, type-leads, count-leads, nested-leads}
 
--- Both parts of an or of bits lie below what it lies below.
-pub or-parts : (a b : ℕ) {k : ℕ} → bitOr a b < k → (a < k) × (b < k)
+-- Both parts of an or of bits lie below what it lies below, and so do all five.
+or-parts : (a b : ℕ) {k : ℕ} → bitOr a b < k → (a < k) × (b < k)
 or-parts a b h = (omega (arith, or-add-and a b, and-le-r a b), omega (arith, or-add-and a b, and-le-l a b))
+
+pub record FiveBelow (k a b c d e : ℕ) : Type 0 where
+  pub first : a < k
+  pub second : b < k
+  pub third : c < k
+  pub fourth : d < k
+  pub fifth : e < k
+
+pub or-five : (a b c d e : ℕ) {k : ℕ} → bitOr (bitOr (bitOr (bitOr a b) c) d) e < k → FiveBelow k a b c d e
+or-five a b c d e h =
+    let four = or-parts (bitOr (bitOr (bitOr a b) c) d) e h in
+    let three = or-parts (bitOr (bitOr a b) c) d (four .0) in
+    let two = or-parts (bitOr a b) c (three .0) in
+    let one = or-parts a b (two .0) in
+    record { first = one .0; second = one .1; third = two .1; fourth = three .1; fifth = four .1 }
 
 -- ---- two bytes, as those of a field that was written
 
@@ -137,6 +152,9 @@ module _ (s : List ℕ) (at : ℕ) (n : SmallNested s at) where
       (leads-reads (nested-leads m (omega arith) message-read))
 
 -- ---- the whole
+
+pub start-near : {s : List ℕ} {at v : ℕ} → SmallStart s at v → at ≤ 8
+start-near h = ⊎-elim (λ e. omega (arith, e .0)) (λ e. omega (arith, e .0)) (h .value-type)
 
 module _ (s : List ℕ) (at v : ℕ) (h : SmallStart s at v) (count : getD s 3 0 < 128) (value : v < 128) where
   start-read : {r : Read State} → Reads outerField (drop 6 s) (stateWith 112 (getD s 3 0) 2 0 emptyHll) r → Reads outerField s emptyState r

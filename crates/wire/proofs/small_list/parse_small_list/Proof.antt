@@ -1,75 +1,76 @@
+-- Each byte is the one that `SmallStart` names.
+use mathlib.Core.Path.{refl}
+use mathlib.Core.Logic.{inl, inr}
 use borrow.Author.Needs.{needs}
 use Rattle.wire.proofs.small_list.parse_small_list.Statement.{statement}
 use Rattle.wire.proofs.small_list.parse_small_list.Tie as tie
-use Rattle.wire.proofs.small_list.parse_small_list.Reads as reads
-use Rattle.wire.proofs.small_list.parse_small_list.Lts as lts
-use Rattle.wire.proofs.small_list.small_nested.Reads as small-nested-reads
 
--- src/small_list.rt:96:9
 returns : tie.Need-returns
 returns c = search needs
 
--- src/small_list.rt:98:8
 shared-slice-read-if2 : tie.Need-shared-slice-read-if2
 shared-slice-read-if2 c = search needs
 
--- src/small_list.rt:99:9
 returns-2 : tie.Need-returns-2
 returns-2 c = search needs
 
--- src/small_list.rt:101:8
 shared-slice-read-if3 : tie.Need-shared-slice-read-if3
 shared-slice-read-if3 c = search needs
 
--- src/small_list.rt:102:9
 returns-3 : tie.Need-returns-3
 returns-3 c = search needs
 
--- src/small_list.rt:104:8
 shared-slice-read-if4 : tie.Need-shared-slice-read-if4
 shared-slice-read-if4 c = search needs
 
--- src/small_list.rt:105:9
 returns-4 : tie.Need-returns-4
 returns-4 c = search needs
 
--- src/small_list.rt:107:8
 shared-slice-read-if5 : tie.Need-shared-slice-read-if5
 shared-slice-read-if5 c = search needs
 
--- src/small_list.rt:108:9
 returns-5 : tie.Need-returns-5
 returns-5 c = search needs
 
--- src/small_list.rt:110:8
 shared-slice-read-if6 : tie.Need-shared-slice-read-if6
 shared-slice-read-if6 c = search needs
 
--- src/small_list.rt:111:9
 returns-6 : tie.Need-returns-6
 returns-6 c = search needs
 
--- src/small_list.rt:113:8
 shared-slice-read-if7 : tie.Need-shared-slice-read-if7
 shared-slice-read-if7 c = search needs
 
--- src/small_list.rt:114:28
 shared-slice-read-small-nested : tie.Need-shared-slice-read-small-nested
 shared-slice-read-small-nested c = search needs
 
--- src/small_list.rt:114:9
 small-nested-requires : tie.Need-small-nested-requires
-small-nested-requires c κs = ?
+small-nested-requires c κs =
+    record {
+      long = c .before .before .before .before .before .before .before .before .before .before .before .before .before .if1 .left;
+      type-tag = c .before .before .before .before .before .before .before .before .before .before .before .if2 .left;
+      type-value = c .before .before .before .before .before .before .before .before .before .if3 .left;
+      count-tag = c .before .before .before .before .before .before .before .if4 .left;
+      version-tag = c .before .before .before .before .before .if5 .left;
+      version-value = c .before .before .before .if6 .left;
+      value-type = inr (refl, c .before .if7 .taken, refl);
+    }
 
--- src/small_list.rt:116:9
 small-nested-requires-2 : tie.Need-small-nested-requires-2
-small-nested-requires-2 c κs = ?
+small-nested-requires-2 c κs =
+    record {
+      long = c .before .before .before .before .before .before .before .before .before .before .before .before .if1 .left;
+      type-tag = c .before .before .before .before .before .before .before .before .before .before .if2 .left;
+      type-value = c .before .before .before .before .before .before .before .before .if3 .left;
+      count-tag = c .before .before .before .before .before .before .if4 .left;
+      version-tag = c .before .before .before .before .if5 .left;
+      version-value = c .before .before .if6 .left;
+      value-type = inl (refl, refl);
+    }
 
--- src/small_list.rt:92:1
 returns-7 : tie.Need-returns-7
 returns-7 c = search needs
 
--- src/small_list.rt:92:1
 returns-8 : tie.Need-returns-8
 returns-8 c = search needs
 

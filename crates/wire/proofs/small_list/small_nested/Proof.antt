@@ -1,145 +1,135 @@
+-- The tags, the bytes below 128 and the two lengths are all that `SmallNested` asks of the bytes from `at` on.
+use Prim.Native.Nat.{_+_}
+use mathlib.Core.Path.{subst}
+use native.Mathlib.Omega.{arith}
+use lib.ListN.{getD}
 use borrow.Author.Needs.{needs}
+use borrow.Author.Tests.{not-false}
+use denote.Ref.{now}
+use Rattle.wire.specs.SmallList.{NestedTagsPost}
+use Rattle.wire.proofs.SmallListLaws.{FiveBelow, or-five, start-near, small-list-read}
 use Rattle.wire.proofs.small_list.small_nested.Statement.{statement}
 use Rattle.wire.proofs.small_list.small_nested.Tie as tie
-use Rattle.wire.proofs.small_list.small_nested.Reads as reads
-use Rattle.wire.proofs.small_list.small_nested.Lts as lts
-use Rattle.wire.proofs.small_list.nested_tags.Reads as nested-tags-reads
 
--- src/small_list.rt:46:12
+-- The five bytes that are numbers.
+small : (c : tie.Else4) → let o = c .before .before .before .before .before .before .before .before .before .before .args in
+    FiveBelow 128 (getD (now (o .s)) 3 0) (getD (now (o .s)) (o .at + 4) 0) (getD (now (o .s)) (o .at + 6) 0) (getD (now (o .s)) (o .at + 8) 0) (o .value-type)
+small c = or-five _ _ _ _ _ (c .if4 .left)
+
 add-if1 : tie.Need-add-if1
-add-if1 c = ?
+add-if1 c = omega (arith, start-near (c .before .pre))
 
--- src/small_list.rt:47:9
 returns : tie.Need-returns
 returns c = search needs
 
--- src/small_list.rt:49:9
 nested-tags-requires : tie.Need-nested-tags-requires
 nested-tags-requires c κs = search needs
 
--- src/small_list.rt:50:9
 returns-2 : tie.Need-returns-2
 returns-2 c = search needs
 
--- src/small_list.rt:53:8
 add-if3 : tie.Need-add-if3
 add-if3 c = search needs
 
--- src/small_list.rt:54:9
 returns-3 : tie.Need-returns-3
 returns-3 c = search needs
 
--- src/small_list.rt:56:17
 shared-slice-read-count : tie.Need-shared-slice-read-count
 shared-slice-read-count c = search needs
 
--- src/small_list.rt:57:18
 add-size : tie.Need-add-size
 add-size c = search needs
 
--- src/small_list.rt:57:16
 shared-slice-read-size : tie.Need-shared-slice-read-size
 shared-slice-read-size c = search needs
 
--- src/small_list.rt:58:23
 add-precision : tie.Need-add-precision
 add-precision c = search needs
 
--- src/small_list.rt:58:21
 shared-slice-read-precision : tie.Need-shared-slice-read-precision
 shared-slice-read-precision c = search needs
 
--- src/small_list.rt:59:30
 add-sparse-precision : tie.Need-add-sparse-precision
 add-sparse-precision c = search needs
 
--- src/small_list.rt:59:28
 shared-slice-read-sparse-precision : tie.Need-shared-slice-read-sparse-precision
 shared-slice-read-sparse-precision c = search needs
 
--- src/small_list.rt:61:9
 returns-4 : tie.Need-returns-4
 returns-4 c = search needs
 
--- src/small_list.rt:63:10
 add-if5 : tie.Need-add-if5
 add-if5 c = search needs
 
--- src/small_list.rt:63:8
 shared-slice-read-if5 : tie.Need-shared-slice-read-if5
 shared-slice-read-if5 c = search needs
 
--- src/small_list.rt:63:8
 cast-if5 : tie.Need-cast-if5
-cast-if5 c = ?
+cast-if5 c = omega (arith, c .shared-slice-known6 .given (c .before .before .before .before .before .before .before .before .before .before .before .args .at + 2))
 
--- src/small_list.rt:63:30
 sub-if5 : tie.Need-sub-if5
 sub-if5 c = search needs
 
--- src/small_list.rt:63:30
 sub-if5-2 : tie.Need-sub-if5-2
 sub-if5-2 c = search needs
 
--- src/small_list.rt:64:9
 returns-5 : tie.Need-returns-5
 returns-5 c = search needs
 
--- src/small_list.rt:66:10
 add-if6 : tie.Need-add-if6
 add-if6 c = search needs
 
--- src/small_list.rt:66:8
 shared-slice-read-if6 : tie.Need-shared-slice-read-if6
 shared-slice-read-if6 c = search needs
 
--- src/small_list.rt:66:8
 cast-if6 : tie.Need-cast-if6
-cast-if6 c = ?
+cast-if6 c = omega (arith, c .shared-slice-known7 .given (c .before .before .before .before .before .before .before .before .before .before .before .before .before .args .at + 10))
 
--- src/small_list.rt:66:31
 sub-if6 : tie.Need-sub-if6
 sub-if6 c = search needs
 
--- src/small_list.rt:66:31
 sub-if6-2 : tie.Need-sub-if6-2
 sub-if6-2 c = search needs
 
--- src/small_list.rt:67:9
 returns-6 : tie.Need-returns-6
 returns-6 c = search needs
 
--- src/small_list.rt:71:16
 add-t12 : tie.Need-add-t12
 add-t12 c = search needs
 
--- src/small_list.rt:72:14
 sub-t26 : tie.Need-sub-t26
 sub-t26 c = search needs
 
--- src/small_list.rt:72:14
 sub-t24 : tie.Need-sub-t24
 sub-t24 c = search needs
 
--- src/small_list.rt:75:22
 cast-t28 : tie.Need-cast-t28
-cast-t28 c = ?
+cast-t28 c = omega (arith, small (c .before .before .before .before) .second)
 
--- src/small_list.rt:76:20
 cast-t29 : tie.Need-cast-t29
-cast-t29 c = ?
+cast-t29 c = omega (arith, small (c .before .before .before .before) .third)
 
--- src/small_list.rt:77:27
 cast-t30 : tie.Need-cast-t30
-cast-t30 c = ?
+cast-t30 c = omega (arith, small (c .before .before .before .before) .fourth)
 
--- src/small_list.rt:85:21
 cast-t31 : tie.Need-cast-t31
-cast-t31 c = ?
+cast-t31 c = omega (arith, small (c .before .before .before .before) .first)
 
--- src/small_list.rt:41:1
 returns-7 : tie.Need-returns-7
-returns-7 c = ?
+returns-7 c =
+    let o = c .before .before .before .before .before .before .before .before .before .before .before .before .before .before in
+    let b = small (c .before .before .before .before) in
+    small-list-read (now (o .args .s)) (o .args .at) (o .args .value-type) (o .pre) (b .first) (b .fifth)
+    (record {
+      room = c .before .before .before .before .before .before .before .before .before .before .before .before .if1 .left;
+      short = c .before .before .before .before .before .before .before .before .before .if3 .left;
+      tags = subst (λ t. NestedTagsPost (now (o .args .s)) (o .args .at) t) (not-false (c .before .before .before .before .before .before .before .before .before .before .before .nested-tags .result) (c .before .before .before .before .before .before .before .before .before .before .if2 .left)) (c .before .before .before .before .before .before .before .before .before .before .before .nested-tags .ensures);
+      size = b .second;
+      precision = b .third;
+      sparse-precision = b .fourth;
+      nested-length = c .before .before .if5 .left;
+      data-length = c .if6 .left;
+    })
 
 pub small-nested-spec : {M : Type 1} → statement M
 small-nested-spec =
