@@ -9,7 +9,6 @@ use native.Mathlib.Omega.{arith}
 use lib.ListN.{length, getD, drop, length-drop}
 use lib.Seq.{drop-cons, take-all}
 use lib.Bits.{bitOr, or-add-and, and-le-l, and-le-r}
-use Rattle.wire.specs.declared.state.Fields.{Fields}
 use Rattle.wire.specs.declared.state.Parsed.the-variants.{Read as StateRead}
 use Rattle.wire.specs.Reading.{Read, got}
 use Rattle.wire.specs.Varints.{varintBytes}

@@ -49,7 +49,7 @@ fn small_nested(s: &[u8], at: usize, value_type: u8) -> Compact
     if !nested_tags(s, at) {
         return Compact::Other;
     }
-    // Else the nested message's length has two bytes.
+    // A nested message that is longer has a length of two bytes.
     if at + 130 < n {
         return Compact::Other;
     }
@@ -67,7 +67,7 @@ fn small_nested(s: &[u8], at: usize, value_type: u8) -> Compact
         return Compact::Other;
     }
     let absent = Part { start: 0, len: 0 };
-    let rest = Part {
+    let list = Part {
         start: at + 11,
         len: n - at - 11,
     };
@@ -78,7 +78,7 @@ fn small_nested(s: &[u8], at: usize, value_type: u8) -> Compact
         data_present: false,
         sparse_data_present: true,
         data: absent,
-        sparse_data: rest,
+        sparse_data: list,
     };
     Compact::Read(Fields {
         aggregator_type: 112,

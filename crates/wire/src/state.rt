@@ -361,8 +361,8 @@ fn parse_short(s: &[u8]) -> Parsed
     Parsed::Read(f)
 }
 
-// The fields of a state, or document 01's number of the first refusal in byte order. In a state of more than 256 bytes some length has
-// two bytes, where the quicker readers would give up.
+// The fields of a state, or document 01's number of the first refusal in byte order. The quicker readers know lengths of one byte alone,
+// so that a state of more than 256 bytes goes to the general one at once.
 pub fn parse(s: &[u8]) -> Parsed
     ensures { λ r. ⌜ ParsePost (now (s .entry)) r ⌝ }
 {
