@@ -1,9 +1,27 @@
 -- Each byte is the one that `SmallStart` names.
-use mathlib.Core.Path.{refl}
-use mathlib.Core.Logic.{inl, inr}
+use Prim.Native.Nat.{ℕ}
+use mathlib.Core.Path.{_≡_, refl}
+use mathlib.Core.Logic.{_⊎_, inl, inr}
+use lib.ListN.{getD}
 use borrow.Author.Needs.{needs}
+use denote.Ref.{now}
+use Rattle.wire.specs.SmallList.{SmallStart}
 use Rattle.wire.proofs.small_list.parse_small_list.Statement.{statement}
 use Rattle.wire.proofs.small_list.parse_small_list.Tie as tie
+
+-- The bytes before the value type, or before the nested message.
+started : {at v : ℕ} (c : tie.Else6) → let s = now (c .before .before .before .before .before .before .before .before .before .before .before .before .args .s) in
+    ((at ≡ 6) × (v ≡ 0)) ⊎ ((at ≡ 8) × (getD s 6 0 ≡ 32) × (v ≡ getD s 7 0)) → SmallStart s at v
+started c e =
+    record {
+      long = c .before .before .before .before .before .before .before .before .before .before .if1 .left;
+      type-tag = c .before .before .before .before .before .before .before .before .if2 .left;
+      type-value = c .before .before .before .before .before .before .if3 .left;
+      count-tag = c .before .before .before .before .if4 .left;
+      version-tag = c .before .before .if5 .left;
+      version-value = c .if6 .left;
+      value-type = e;
+    }
 
 returns : tie.Need-returns
 returns c = search needs
@@ -45,28 +63,10 @@ shared-slice-read-small-nested : tie.Need-shared-slice-read-small-nested
 shared-slice-read-small-nested c = search needs
 
 small-nested-requires : tie.Need-small-nested-requires
-small-nested-requires c κs =
-    record {
-      long = c .before .before .before .before .before .before .before .before .before .before .before .before .before .if1 .left;
-      type-tag = c .before .before .before .before .before .before .before .before .before .before .before .if2 .left;
-      type-value = c .before .before .before .before .before .before .before .before .before .if3 .left;
-      count-tag = c .before .before .before .before .before .before .before .if4 .left;
-      version-tag = c .before .before .before .before .before .if5 .left;
-      version-value = c .before .before .before .if6 .left;
-      value-type = inr (refl, c .before .if7 .taken, refl);
-    }
+small-nested-requires c κs = started (c .before .before .before) (inr (refl, c .before .if7 .taken, refl))
 
 small-nested-requires-2 : tie.Need-small-nested-requires-2
-small-nested-requires-2 c κs =
-    record {
-      long = c .before .before .before .before .before .before .before .before .before .before .before .before .if1 .left;
-      type-tag = c .before .before .before .before .before .before .before .before .before .before .if2 .left;
-      type-value = c .before .before .before .before .before .before .before .before .if3 .left;
-      count-tag = c .before .before .before .before .before .before .if4 .left;
-      version-tag = c .before .before .before .before .if5 .left;
-      version-value = c .before .before .if6 .left;
-      value-type = inl (refl, refl);
-    }
+small-nested-requires-2 c κs = started (c .before .before) (inl (refl, refl))
 
 returns-7 : tie.Need-returns-7
 returns-7 c = search needs

@@ -6,14 +6,21 @@ use lib.ListN.{getD}
 use borrow.Author.Needs.{needs}
 use borrow.Author.Tests.{not-false}
 use denote.Ref.{now}
-use Rattle.wire.specs.SmallList.{NestedTagsPost}
+use Rattle.wire.specs.SmallList.{NestedTags, NestedTagsPost}
 use Rattle.wire.proofs.SmallListLaws.{FiveBelow, or-five, start-near, small-list-read}
 use Rattle.wire.proofs.small_list.small_nested.Statement.{statement}
 use Rattle.wire.proofs.small_list.small_nested.Tie as tie
 
+-- The tags that the call saw.
+tags-seen : (c : tie.Else2) → let o = c .before .before .before .before .args in NestedTags (now (o .s)) (o .at)
+tags-seen c =
+    let o = c .before .before .before .before .args in
+    subst (λ t. NestedTagsPost (now (o .s)) (o .at) t) (not-false (c .before .nested-tags .result) (c .if2 .left)) (c .before .nested-tags .ensures)
+
 -- The five bytes that are numbers.
 small : (c : tie.Else4) → let o = c .before .before .before .before .before .before .before .before .before .before .args in
-    FiveBelow 128 (getD (now (o .s)) 3 0) (getD (now (o .s)) (o .at + 4) 0) (getD (now (o .s)) (o .at + 6) 0) (getD (now (o .s)) (o .at + 8) 0) (o .value-type)
+    FiveBelow 128 (getD (now (o .s)) 3 0) (getD (now (o .s)) (o .at + 4) 0) (getD (now (o .s)) (o .at + 6) 0) (getD (now (o .s)) (o .at + 8) 0)
+    (o .value-type)
 small c = or-five _ _ _ _ _ (c .if4 .left)
 
 add-if1 : tie.Need-add-if1
@@ -123,7 +130,7 @@ returns-7 c =
     (record {
       room = c .before .before .before .before .before .before .before .before .before .before .before .before .if1 .left;
       short = c .before .before .before .before .before .before .before .before .before .if3 .left;
-      tags = subst (λ t. NestedTagsPost (now (o .args .s)) (o .args .at) t) (not-false (c .before .before .before .before .before .before .before .before .before .before .before .nested-tags .result) (c .before .before .before .before .before .before .before .before .before .before .if2 .left)) (c .before .before .before .before .before .before .before .before .before .before .before .nested-tags .ensures);
+      tags = tags-seen (c .before .before .before .before .before .before .before .before .before .before);
       size = b .second;
       precision = b .third;
       sparse-precision = b .fourth;
