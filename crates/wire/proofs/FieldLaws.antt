@@ -125,10 +125,11 @@ module _ {A : Type 0} {field : ℕ → List ℕ → A → Read A} where
   leads-both {a} {v = v} {w = w} f g =
       record { on = λ l r h. subst (λ (x : List ℕ). Reads field x a r) (sym (append-assoc v w l)) (f .on (w ++ l) r (g .on l r h)) }
 
+  pub leads-reads : {a b : A} {w : List ℕ} → Leads field a b w → Reads field w a (got b [])
+  leads-reads {a} {b} {w} f = subst (λ (x : List ℕ). Reads field x a (got b [])) (append-nil w) (f .on [] (got b []) (reads-none field b))
+
   pub leads-message : {a b : A} {w : List ℕ} → Leads field a b w → messageOf field w a ≡ got b []
-  leads-message {a} {b} {w} f =
-      subst (λ (x : List ℕ). messageOf field x a ≡ got b []) (append-nil w)
-      (reads-message field (w ++ []) a (got b []) (f .on [] (got b []) (reads-none field b)))
+  leads-message {a} {b} {w} f = reads-message field w a (got b []) (leads-reads f)
 
   module _ {P : Read A → Type 0} where
     pub cuts-none : {a : A} → Cuts field P a []

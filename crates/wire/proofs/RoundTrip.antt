@@ -14,7 +14,7 @@ use Rattle.wire.proofs.FieldLaws.{Leads, leads-none, leads-both, leads-
 
 -- ---- the nested message
 
-abbrev hllWith : ℕ → ℕ → ℕ → Option (List ℕ) → Option (List ℕ) → HllState
+abbrev pub hllWith : ℕ → ℕ → ℕ → Option (List ℕ) → Option (List ℕ) → HllState
 hllWith n p s d e = record { sparseSize = n; precision = p; sparsePrecision = s; «data» = d; sparseData = e }
 
 size-leads : {n : ℕ} → n < 2 ^ 32 → Leads hllField emptyHll (hllWith n 0 0 none none) (int32Unless 0 2 n)
@@ -38,7 +38,7 @@ data-leads {n} {p} {s} (some x) h =
     leads-bytes 5 (omega arith) (omega arith) (λ (y rest : List ℕ). got (hllWith n p s (some y) none) rest)
     (λ (l : List ℕ). refl) x (omega (arith, field-ge 5 (some x))) (λ (l : List ℕ). refl)
 
-sparse-data-leads : {n p s : ℕ} {d : Option (List ℕ)} (e : Option (List ℕ)) → length (bytesField 6 e) < 2 ^ 64
+pub sparse-data-leads : {n p s : ℕ} {d : Option (List ℕ)} (e : Option (List ℕ)) → length (bytesField 6 e) < 2 ^ 64
     → Leads hllField (hllWith n p s d none) (hllWith n p s d e) (bytesField 6 e)
 unfolding hllField bytesField
 sparse-data-leads none h = leads-none
@@ -64,14 +64,14 @@ hll-back st w =
 
 -- ---- the state
 
-abbrev stateWith : ℕ → ℕ → ℕ → ℕ → HllState → State
+abbrev pub stateWith : ℕ → ℕ → ℕ → ℕ → HllState → State
 stateWith t n v y h = record { aggregatorType = t; numValues = n; encodingVersion = v; valueType = y; hll = h }
 
-type-leads : {t : ℕ} → t < 2 ^ 32 → Leads outerField emptyState (stateWith t 0 1 0 emptyHll) (numberField 1 (signExtended t))
+pub type-leads : {t : ℕ} → t < 2 ^ 32 → Leads outerField emptyState (stateWith t 0 1 0 emptyHll) (numberField 1 (signExtended t))
 unfolding outerField
 type-leads {t} h = leads-int32 1 (omega arith) (omega arith) (λ (x : ℕ). stateWith x 0 1 0 emptyHll) (λ (l : List ℕ). refl) t h
 
-count-leads : {t n : ℕ} → n < 2 ^ 64 → Leads outerField (stateWith t 0 1 0 emptyHll) (stateWith t n 1 0 emptyHll) (numberField 2 n)
+pub count-leads : {t n : ℕ} → n < 2 ^ 64 → Leads outerField (stateWith t 0 1 0 emptyHll) (stateWith t n 1 0 emptyHll) (numberField 2 n)
 unfolding outerField
 count-leads {t} {n} h = leads-number 2 (omega arith) (omega arith) (λ (x : ℕ). stateWith t x 1 0 emptyHll) (λ (l : List ℕ). refl) n h
 
@@ -115,7 +115,7 @@ abbrev nested : ℕ → ℕ → ℕ → ℕ → List ℕ → List ℕ → Read S
 nested t n v y m rest = andThen (readHll m emptyHll) (λ h nothing. got (stateWith t n v y h) rest)
 
 module _ {t n v y : ℕ} (m : List ℕ) (short : length m < 2 ^ 64) where
-  nested-leads : {h : HllState} → readHll m emptyHll ≡ got h []
+  pub nested-leads : {h : HllState} → readHll m emptyHll ≡ got h []
       → Leads outerField (stateWith t n v y emptyHll) (stateWith t n v y h) (bytesField 112 (some m))
   unfolding outerField
   nested-leads e = leads-bytes 112 (omega arith) (omega arith) (nested t n v y) (λ (l : List ℕ). refl) m short (λ (l : List ℕ). then-same _ e)

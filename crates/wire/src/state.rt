@@ -5,6 +5,7 @@ ghost use mathlib.Core.Path.{_≡_};
 ghost use mathlib.Core.List.{List};
 ghost use Prim.Native.Nat.{ℕ, _+_, _≤_, _<_, _^_};
 ghost use lib.ListN.{length, take, drop};
+ghost use Rattle.wire.specs.Compact.{CompactPost};
 ghost use Rattle.wire.specs.Fields.{fieldOf};
 ghost use Rattle.wire.specs.State.{hllNumberOf, hllBytesOf, otherOf, hllField, numberOf, nestedOf, outerField, hllOf, stateOf, bytesOrNone, emptyState, withHllNumber, withHllBytes, withNumber, HllInside, ParsePost, StepPost, HllStepPost, HllPost, hllStepRefusal, hllRefusal, stepRefusal};
 use crate::compact::Compact;
@@ -18,6 +19,7 @@ use crate::fields::skip;
 use crate::fields::skipped_refusal;
 use crate::fields::tag_refusal;
 use crate::fields::taken_refusal;
+use crate::small_list::parse_small_list;
 use crate::varint::Cursor;
 use crate::varint::Varint;
 use crate::varint::read_varint;
@@ -339,11 +341,27 @@ pub fn parse_general(s: &[u8]) -> Parsed
     Parsed::Read(f)
 }
 
-// The fields of a state, or document 01's number of the first refusal in byte order. The compact layout is tried first.
+// The layouts of short states, that of a small list first. The quick readers know lengths of one byte alone, so that they are not tried on a state of more
+// than 256 bytes.
+fn parse_quickly(s: &[u8]) -> Compact
+    ensures { λ r. ⌜ CompactPost (now (s .entry)) r ⌝ }
+{
+    if 256 < s.len() {
+        return Compact::Other;
+    }
+    let r = parse_small_list(s);
+    let Compact::Read(f) = r else {
+        return parse_compact(s);
+    };
+    Compact::Read(f)
+}
+
+// The fields of a state, or document 01's number of the first refusal in byte order. (The general reader is called in one place, so that the compiler puts it
+// there and its answer is not copied.)
 pub fn parse(s: &[u8]) -> Parsed
     ensures { λ r. ⌜ ParsePost (now (s .entry)) r ⌝ }
 {
-    let r = parse_compact(s);
+    let r = parse_quickly(s);
     let Compact::Read(f) = r else {
         return parse_general(s);
     };
