@@ -1,50 +1,117 @@
--- Laws of testing a list value by value: the whole is what the rest makes of it.
-use Prim.Native.Nat.{ℕ, _+_, _<_, _≤_}
+-- Laws of testing a list value by value: the whole is what was found so far and what the rest makes of it.
+use Prim.Native.Nat.{ℕ, zero, suc, _+_, _-_, _^_, _<_, _≤_}
 use mathlib.Core.Path.{_≡_, refl, sym, ap, _∙_}
-use mathlib.Core.List.{List}
-use mathlib.Core.Bool.{Bool, true, false, _&&_}
+use mathlib.Core.List.{List, [], _∷_}
+use mathlib.Core.Bool.{Bool, true, false, _&&_, and-assoc, and-true}
+use native.Mathlib.Omega.{arith}
 use native.Mathlib.Numerals.{add-one}
-use lib.ListN.{length, getD, drop, drop-of-length-le}
-use lib.Seq.{drop-cons}
+use lib.ListN.{length, getD, take, drop, drop-of-length-le}
+use lib.Seq.{drop-cons, take-all}
 use lib.Dec.{leb}
-use borrow.Author.Tests.{le-leb, lt-leb}
-use Rattle.lists.specs.Values.{valid}
+use borrow.Author.Tests.{le-leb}
+use Rattle.lists.specs.Values.{mark, valid}
 use Rattle.lists.specs.Sorting.{notBefore, ascends}
+use Rattle.lists.specs.Order.{Ascending, Below, lastOf}
 use Rattle.lists.specs.Lists.{allValid}
+use Rattle.lists.proofs.ValueLaws.{below-mark, valid-plain}
+use Rattle.lists.proofs.DecodingLaws.{small-valid}
+use Rattle.lists.proofs.OrderLaws.{ascending}
+use Rattle.lists.proofs.SortingLaws.{last-take}
+
+-- One test more was made.
+pub one-more : (all next ok rest : Bool) → next ≡ (all && ok) → (all && (ok && rest)) ≡ (next && rest)
+one-more all next ok rest e = sym (and-assoc all ok rest) ∙ ap (λ (t : Bool). t && rest) (sym e)
 
 -- ---- every value is valid
 
-module _ (p s : ℕ) (l : List ℕ) where
-  pub valid-end : (i : ℕ) → length l ≤ i → allValid p s (drop i l) ≡ true
+module _ (p s : ℕ) (l : List ℕ) (i : ℕ) (all : Bool) where
+  valid-step : i < length l → allValid p s (drop i l) ≡ (valid p s (getD l i 0) && allValid p s (drop (i + 1) l))
   unfolding allValid
-  valid-end i h = ap (allValid p s) (drop-of-length-le l h)
+  valid-step h = ap (allValid p s) (drop-cons l i 0 h) ∙ ap (λ (n : ℕ). valid p s (getD l i 0) && allValid p s (drop n l)) (sym (add-one i))
 
-  pub valid-step : (i : ℕ) → i < length l → allValid p s (drop i l) ≡ (valid p s (getD l i 0) && allValid p s (drop (i + 1) l))
+  pub valid-turn : (next ok : Bool) → i < length l → ok ≡ valid p s (getD l i 0) → next ≡ (all && ok)
+      → (all && allValid p s (drop i l)) ≡ (next && allValid p s (drop (i + 1) l))
+  valid-turn next ok h e f =
+      ap (λ (t : Bool). all && t) (valid-step h)
+      ∙ one-more all next (valid p s (getD l i 0)) (allValid p s (drop (i + 1) l)) (f ∙ ap (λ (t : Bool). all && t) e)
+
+  pub valid-end : length l ≤ i → (all && allValid p s (drop i l)) ≡ all
   unfolding allValid
-  valid-step i h = ap (allValid p s) (drop-cons l i 0 h) ∙ ap (λ (n : ℕ). valid p s (getD l i 0) && allValid p s (drop n l)) (sym (add-one i))
-
-  pub valid-next : (i : ℕ) → i < length l → valid p s (getD l i 0) ≡ true → allValid p s (drop i l) ≡ allValid p s (drop (i + 1) l)
-  valid-next i h e = valid-step i h ∙ ap (λ (t : Bool). t && allValid p s (drop (i + 1) l)) e
-
-  pub valid-not : (i : ℕ) → i < length l → valid p s (getD l i 0) ≡ false → allValid p s (drop i l) ≡ false
-  valid-not i h e = valid-step i h ∙ ap (λ (t : Bool). t && allValid p s (drop (i + 1) l)) e
+  valid-end h = ap (λ (t : List ℕ). all && allValid p s t) (drop-of-length-le l h) ∙ and-true all
 
 -- ---- no value is less than the one before
 
-pub rising-start : (l : List ℕ) → ascends l ≡ notBefore 0 (drop 0 l)
+pub rising-start : (l : List ℕ) → ascends l ≡ notBefore (getD l 0 0) (drop 1 l)
 unfolding ascends
-rising-start l = refl
+rising-start [] = refl
+rising-start (x ∷ l) = ap (λ (t : Bool). t && notBefore x l) (le-leb 0 x (let h : 0 ≤ x = omega arith in h))
 
-module _ (l : List ℕ) (last i : ℕ) where
-  pub rising-end : length l ≤ i → notBefore last (drop i l) ≡ true
-  rising-end h = ap (notBefore last) (drop-of-length-le l h)
-
-  rising-step : i < length l → notBefore last (drop i l) ≡ (leb last (getD l i 0) && notBefore (getD l i 0) (drop (i + 1) l))
-  rising-step h =
+module _ (l : List ℕ) (i : ℕ) (all : Bool) where
+  rising-step : (last : ℕ) → i < length l → notBefore last (drop i l) ≡ (leb last (getD l i 0) && notBefore (getD l i 0) (drop (i + 1) l))
+  rising-step last h =
       ap (notBefore last) (drop-cons l i 0 h) ∙ ap (λ (n : ℕ). leb last (getD l i 0) && notBefore (getD l i 0) (drop n l)) (sym (add-one i))
 
-  pub rising-next : i < length l → last ≤ getD l i 0 → notBefore last (drop i l) ≡ notBefore (getD l i 0) (drop (i + 1) l)
-  rising-next h k = rising-step h ∙ ap (λ (t : Bool). t && notBefore (getD l i 0) (drop (i + 1) l)) (le-leb _ _ k)
+  pub rising-turn : (next : Bool) → i < length l → next ≡ (all && leb (getD l (i - 1) 0) (getD l i 0))
+      → (all && notBefore (getD l (i - 1) 0) (drop i l)) ≡ (next && notBefore (getD l (i + 1 - 1) 0) (drop (i + 1) l))
+  rising-turn next h e =
+      ap (λ (t : Bool). all && t) (rising-step (getD l (i - 1) 0) h)
+      ∙ one-more all next (leb (getD l (i - 1) 0) (getD l i 0)) (notBefore (getD l i 0) (drop (i + 1) l)) e
+      ∙ ap (λ (n : ℕ). next && notBefore (getD l n 0) (drop (i + 1) l)) (let f : i ≡ i + 1 - 1 = omega arith in f)
 
-  pub rising-not : i < length l → getD l i 0 < last → notBefore last (drop i l) ≡ false
-  rising-not h k = rising-step h ∙ ap (λ (t : Bool). t && notBefore (getD l i 0) (drop (i + 1) l)) (lt-leb _ _ k)
+  pub rising-end : length l ≤ i → (all && notBefore (getD l (i - 1) 0) (drop i l)) ≡ all
+  rising-end h = ap (λ (t : List ℕ). all && notBefore (getD l (i - 1) 0) t) (drop-of-length-le l h) ∙ and-true all
+
+-- ---- every value of an ascending list is valid
+
+absorbed : (a b : Bool) → (b ≡ true → a ≡ true) → (a && b) ≡ b
+absorbed true b f = refl
+absorbed false true f = f refl
+absorbed false false f = refl
+
+last-least : (n : ℕ) (l : List ℕ) → Ascending n l → n ≤ lastOf n l
+last-least n [] a = omega arith
+last-least n (x ∷ l) a = omega (arith, a .0, last-least x l (a .1))
+
+last-under : (m n : ℕ) (l : List ℕ) → n < m → Below m l → lastOf n l < m
+last-under m n [] h b = h
+last-under m n (x ∷ l) h b = last-under m x l (b .0) (b .1)
+
+last-value : (l : List ℕ) → 0 < length l → lastOf 0 l ≡ getD l (length l - 1) 0
+last-value l h =
+    ap (lastOf 0) (sym (take-all (suc (length l - 1)) l (omega arith))) ∙ last-take 0 l (length l - 1) (let k : length l - 1 < length l = omega arith in k)
+
+module _ (p s : ℕ) where
+  -- A value that is no larger than a valid one below the mark.
+  valid-lower : (x y : ℕ) → x ≤ y → y < mark p s → valid p s y ≡ true → valid p s x ≡ true
+  valid-lower x y h g v = small-valid p s x (let k : x < 2 ^ s = omega (arith, valid-plain p s y (below-mark p s y g) v) in k)
+
+  by-last : (x : ℕ) (l : List ℕ) → Ascending x l → Below (mark p s) (x ∷ l) → allValid p s (x ∷ l) ≡ valid p s (lastOf x l)
+  unfolding allValid
+  by-last x [] a b = and-true (valid p s x)
+  by-last x (y ∷ l) a b =
+      ap (λ (t : Bool). valid p s x && t) (by-last y l (a .1) (b .1))
+      ∙ absorbed (valid p s x) (valid p s (lastOf y l))
+      (valid-lower x (lastOf y l) (let h : x ≤ lastOf y l = omega (arith, a .0, last-least y l (a .1)) in h) (last-under (mark p s) y l (b .1 .0) (b .1 .1)))
+
+  pub plain-none : (l : List ℕ) → length l ≡ 0 → true ≡ allValid p s l
+  unfolding allValid
+  plain-none [] e = refl
+  plain-none (x ∷ l) e = absurd (let z : ⊥ = omega arith in z)
+
+  pub plain-last : (l : List ℕ) → 0 < length l → ascends l ≡ true → Below (mark p s) l → valid p s (getD l (length l - 1) 0) ≡ allValid p s l
+  plain-last [] h e b = absurd (let z : ⊥ = omega arith in z)
+  plain-last (x ∷ l) h e b = sym (by-last x l (ascending (x ∷ l) e .1) b ∙ ap (valid p s) (last-value (x ∷ l) h))
+
+  -- Of two parts.
+  valid-parts : (m : ℕ) (l : List ℕ) → allValid p s l ≡ (allValid p s (take m l) && allValid p s (drop m l))
+  unfolding allValid
+  valid-parts zero l = refl
+  valid-parts (suc m) [] = refl
+  valid-parts (suc m) (x ∷ l) =
+      ap (λ (t : Bool). valid p s x && t) (valid-parts m l) ∙ sym (and-assoc (valid p s x) (allValid p s (take m l)) (allValid p s (drop m l)))
+
+  pub parts-no : (m : ℕ) (l : List ℕ) → allValid p s (take m l) ≡ false → false ≡ allValid p s l
+  parts-no m l e = sym (valid-parts m l ∙ ap (λ (t : Bool). t && allValid p s (drop m l)) e)
+
+  pub parts-yes : (m : ℕ) (l : List ℕ) → allValid p s (take m l) ≡ true → allValid p s (drop m l) ≡ allValid p s l
+  parts-yes m l e = sym (valid-parts m l ∙ ap (λ (t : Bool). t && allValid p s (drop m l)) e)

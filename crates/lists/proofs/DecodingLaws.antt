@@ -170,7 +170,7 @@ module _ (p s last v : ℕ) where
 
 -- ---- all values valid, from two of them
 
-small-valid : (p s v : ℕ) → v < 2 ^ s → valid p s v ≡ true
+pub small-valid : (p s v : ℕ) → v < 2 ^ s → valid p s v ≡ true
 small-valid p s v h = plain-valid p s v (below-mark p s v (omega (arith, mark-sparse p s))) h
 
 all-more : (p s : ℕ) (vs : List ℕ) (v : ℕ) → allValid p s (vs ++ (v ∷ [])) ≡ (allValid p s vs && valid p s v)

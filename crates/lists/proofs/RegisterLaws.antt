@@ -4,7 +4,7 @@ use mathlib.Core.Path.{_≡_, refl, sym, ap, ap₂, _∙_, subst}
 use mathlib.Core.Bool.{Bool, cond}
 use mathlib.Core.List.{List, [], _∷_, _++_, append-assoc, append-nil}
 use mathlib.Core.Logic.{_⊎_, inl, inr, ⊎-elim}
-use native.Mathlib.Nat.{le-trans, le-of-eq, le-antisymm, max-le, le-max-left, le-max-right, max-zero, mod-lt, mul-mod-left, mul-le-mul-right, pow-suc, suc-mul}
+use native.Mathlib.Nat.{le-trans, le-of-eq, le-antisymm, max-zero, mod-lt, mul-mod-left, mul-le-mul-right, pow-suc, suc-mul}
 use native.Mathlib.Numerals.{add-one}
 use native.Mathlib.Omega.{arith}
 use lib.ListN.{length, getD, take, drop, set, replicate, length-set, length-append, length-drop, length-replicate, take-append-drop, drop-of-length-le, List·getD-append}
@@ -16,8 +16,8 @@ use lib.Count.{leadingZeros, leading-length, leading-unique}
 use borrow.Author.Tests.{lt-ltb, le-ltb, eq-eqb, ne-eqb}
 use Rattle.wire.proofs.BoolLaws.{both}
 use Rattle.wire.proofs.VarintLaws.{side}
-use Rattle.lists.proofs.ValueLaws.{wider, lowered-zero, lowered-bits, lowered-register, register-zero}
-use Rattle.lists.proofs.RankLaws.{if-alike, if-other, none-or, zeros-at, max-assoc, larger-length, larger-at, largest-upper, lowered-length, lowered-at, lowered-upper, lowered-least, lowered-agree, raisedWith, lowerIndex, lowerRank}
+use Rattle.lists.proofs.ValueLaws.{wider, lowered-zero, lowered-bits, lowered-bits-le, lowered-register, lowered-register-le, register-zero}
+use Rattle.lists.proofs.RankLaws.{none-or, zeros-at, max-assoc, larger-length, larger-at, largest-upper, lowered-length, lowered-at, lowered-upper, lowered-least, lowered-agree, raisedWith, lowerIndex, lowerRank}
 use Rattle.lists.specs.Values.{register, rank, IndexPost, RankPost, loweredRank, loweredRegister}
 use Rattle.lists.specs.Registers.{registerBytes, registersOf, withRegisters, zeros, raise, larger, loweredAt, lowered, notZero, largest, clearedFrom, loweredInPlace, offsetRank, HoldsFirst, ReadPost, StorePost, RaisePost, BothHold, ScanPre, ScanPost, LowerPre, BlockPre, BlockPost, DowngradePre}
 
@@ -418,45 +418,51 @@ offset-zeros d o h l =
     let u : 31 - d ≡ leadingZeros 32 o = leading-unique 32 o (31 - d) (suc d) (omega arith) (omega (arith, e, pow-suc 2 d, pow-pos d)) (omega (arith, e, pow-suc 2 d)) in
     omega (arith, u, offset-past d o c)) (side o (2 ^ d))
 
-pub first-lowered : (d t r : ℕ) → loweredRegister d (t * 2 ^ d) r ≡ cond (eqb r 0) 0 (r + d)
-first-lowered d t r =
-    ⊎-elim (λ (z : r ≡ 0). ap (loweredRegister d (t * 2 ^ d)) z ∙ register-zero d (t * 2 ^ d) ∙ sym (if-alike r 0 0 (r + d) z))
-    (λ (h : 0 < r).
-    lowered-register d (t * 2 ^ d) r h
-    ∙ lowered-zero d (t * 2 ^ d) r (mul-mod-left t (2 ^ d))
-    ∙ sym (if-other r 0 0 (r + d) (λ (z : r ≡ 0). omega arith))) (none-or r)
+-- The block's first register, where it is not zero, gives more than any other.
+module _ (regs : List ℕ) (d t : ℕ) (some : 0 < getD regs (t * 2 ^ d) 0) where
+  first-lowered : loweredRegister d (t * 2 ^ d) (getD regs (t * 2 ^ d) 0) ≡ getD regs (t * 2 ^ d) 0 + d
+  first-lowered =
+      lowered-register d (t * 2 ^ d) (getD regs (t * 2 ^ d) 0) some
+      ∙ lowered-zero d (t * 2 ^ d) (getD regs (t * 2 ^ d) 0) (mul-mod-left t (2 ^ d))
 
+  first-upper : (k : ℕ) → k / 2 ^ d ≡ t → loweredRegister d k (getD regs k 0) ≤ getD regs (t * 2 ^ d) 0 + d
+  first-upper k e =
+      let s : t * 2 ^ d + k % 2 ^ d ≡ k = ap (λ (n : ℕ). n * 2 ^ d + k % 2 ^ d) (sym e) ∙ split k d in
+      ⊎-elim
+      (λ (o : k % 2 ^ d ≡ 0).
+      let f : k ≡ t * 2 ^ d = omega arith in
+      le-of-eq (ap (λ (n : ℕ). loweredRegister d n (getD regs n 0)) f ∙ first-lowered))
+      (λ (o : 0 < k % 2 ^ d). omega (arith, lowered-register-le d k (getD regs k 0), lowered-bits-le d k (getD regs k 0) o)) (none-or (k % 2 ^ d))
+
+  first-decides : getD regs (t * 2 ^ d) 0 + d ≡ loweredAt d 0 regs t
+  first-decides =
+      le-antisymm (le-trans (le-of-eq (sym first-lowered)) (lowered-upper d t regs (t * 2 ^ d) (shl-shr t d)))
+      (lowered-least d t regs (getD regs (t * 2 ^ d) 0 + d) first-upper)
+
+-- Where the block's first register is zero, the first that is not gives more than any other.
 module _ (regs : List ℕ) (d t at : ℕ) (after : t * 2 ^ d + 1 ≤ at) (before : at ≤ t * 2 ^ d + 2 ^ d)
-    (none : (x : ℕ) → t * 2 ^ d + 1 ≤ x → x < at → getD regs x 0 ≡ 0) (found : at < t * 2 ^ d + 2 ^ d → 0 < getD regs at 0) where
+    (none : (x : ℕ) → t * 2 ^ d ≤ x → x < at → getD regs x 0 ≡ 0) (found : at < t * 2 ^ d + 2 ^ d → 0 < getD regs at 0) where
   -- A register o > 0 places after the block's first, which is not zero.
   at-offset : (k : ℕ) → k / 2 ^ d ≡ t → 0 < k % 2 ^ d → 0 < getD regs k 0 → loweredRegister d k (getD regs k 0) ≡ 1 + leadingZeros d (k % 2 ^ d)
   at-offset k e o h = lowered-register d k (getD regs k 0) h ∙ lowered-bits d k (getD regs k 0) o
 
-  block-upper : (k : ℕ) → k / 2 ^ d ≡ t → loweredRegister d k (getD regs k 0)
-      ≤ max (loweredRegister d (t * 2 ^ d) (getD regs (t * 2 ^ d) 0)) (offsetRank d (at - t * 2 ^ d))
+  block-upper : (k : ℕ) → k / 2 ^ d ≡ t → loweredRegister d k (getD regs k 0) ≤ offsetRank d (at - t * 2 ^ d)
   block-upper k e =
       let s : t * 2 ^ d + k % 2 ^ d ≡ k = ap (λ (n : ℕ). n * 2 ^ d + k % 2 ^ d) (sym e) ∙ split k d in
       let m : k % 2 ^ d < 2 ^ d = mod-lt k (pow-pos d) in
       ⊎-elim
-      (λ (o : k % 2 ^ d ≡ 0).
-      let f : k ≡ t * 2 ^ d = omega arith in
-      le-trans (le-of-eq (ap (λ (n : ℕ). loweredRegister d n (getD regs n 0)) f))
-      (le-max-left (loweredRegister d (t * 2 ^ d) (getD regs (t * 2 ^ d) 0)) (offsetRank d (at - t * 2 ^ d))))
-      (λ (o : 0 < k % 2 ^ d).
-      ⊎-elim
       (λ (z : getD regs k 0 ≡ 0).
-      subst (λ (n : ℕ). n ≤ max (loweredRegister d (t * 2 ^ d) (getD regs (t * 2 ^ d) 0)) (offsetRank d (at - t * 2 ^ d)))
-      (sym (ap (loweredRegister d k) z ∙ register-zero d k)) zero-le)
+      subst (λ (n : ℕ). n ≤ offsetRank d (at - t * 2 ^ d)) (sym (ap (loweredRegister d k) z ∙ register-zero d k)) zero-le)
       (λ (h : 0 < getD regs k 0).
       ⊎-elim
       (λ (c : k < at). absurd (let z : ⊥ = omega (arith, none k (omega arith) c) in z))
       (λ (c : at ≤ k).
       let l : at - t * 2 ^ d ≤ k % 2 ^ d = omega arith in
       let g : at - t * 2 ^ d < 2 ^ d = omega arith in
+      let o : 0 < k % 2 ^ d = omega arith in
       le-trans (le-of-eq (at-offset k e o h))
-      (le-trans (let q : 1 + leadingZeros d (k % 2 ^ d) ≤ offsetRank d (at - t * 2 ^ d) = omega (arith, zeros-fall d (at - t * 2 ^ d) (k % 2 ^ d) l m, offset-in d (at - t * 2 ^ d) g) in q)
-      (le-max-right (loweredRegister d (t * 2 ^ d) (getD regs (t * 2 ^ d) 0)) (offsetRank d (at - t * 2 ^ d))))) (side k at)) (none-or (getD regs k 0)))
-      (none-or (k % 2 ^ d))
+      (let q : 1 + leadingZeros d (k % 2 ^ d) ≤ offsetRank d (at - t * 2 ^ d) = omega (arith, zeros-fall d (at - t * 2 ^ d) (k % 2 ^ d) l m, offset-in d (at - t * 2 ^ d) g) in q))
+      (side k at)) (none-or (getD regs k 0))
 
   offset-lands : offsetRank d (at - t * 2 ^ d) ≤ loweredAt d 0 regs t
   offset-lands =
@@ -472,11 +478,8 @@ module _ (regs : List ℕ) (d t at : ℕ) (after : t * 2 ^ d + 1 ≤ at) (before
       (λ (g : 2 ^ d ≤ at - t * 2 ^ d). subst (λ (n : ℕ). n ≤ loweredAt d 0 regs t) (sym (offset-past d (at - t * 2 ^ d) g)) zero-le)
       (side (at - t * 2 ^ d) (2 ^ d))
 
-  -- Lowering register by register has the same result as the block's first register and the first of the others that is not zero.
-  pub block-lowered : max (loweredRegister d (t * 2 ^ d) (getD regs (t * 2 ^ d) 0)) (offsetRank d (at - t * 2 ^ d)) ≡ loweredAt d 0 regs t
-  block-lowered =
-      le-antisymm (max-le (lowered-upper d t regs (t * 2 ^ d) (shl-shr t d)) offset-lands)
-      (lowered-least d t regs (max (loweredRegister d (t * 2 ^ d) (getD regs (t * 2 ^ d) 0)) (offsetRank d (at - t * 2 ^ d))) block-upper)
+  block-lowered : offsetRank d (at - t * 2 ^ d) ≡ loweredAt d 0 regs t
+  block-lowered = le-antisymm offset-lands (lowered-least d t regs (offsetRank d (at - t * 2 ^ d)) block-upper)
 
 -- The block of a register lies in the registers.
 pub block-within : (p d t : ℕ) → d ≤ p → t < 2 ^ (p - d) → t * 2 ^ d + 2 ^ d ≤ 2 ^ p
@@ -485,21 +488,31 @@ block-within p d t h l =
     let e : 2 ^ (p - d) * 2 ^ d ≡ 2 ^ p = sym (pow-add 2 (p - d) d) ∙ ap (λ (n : ℕ). 2 ^ n) (let f : p - d + d ≡ p = omega arith in f) in
     omega (arith, m, e, suc-mul t (2 ^ d))
 
-pub block-post : (bytes : List ℕ) (d t first r head tail at : ℕ) → ReadPost bytes (t * 2 ^ d) first → head ≡ cond (eqb first 0) 0 (first + d)
-    → ScanPost bytes (t * 2 ^ d + 1) (t * 2 ^ d + 2 ^ d) at → tail ≡ offsetRank d (at - t * 2 ^ d) → r ≡ max head tail → BlockPost bytes d t r
-block-post bytes d t first r head tail at read e scan f g =
-    record {
-      value = λ (p : ℕ) (room : registerBytes p ≤ length bytes) (h : d ≤ p) (l : t < 2 ^ (p - d)).
-          let w = block-within p d t h l in
-          let i : t * 2 ^ d < 2 ^ p = omega (arith, pow-pos d) in
-          g
-          ∙ ap₂ max
-          (e
-          ∙ ap (λ (n : ℕ). cond (eqb n 0) 0 (n + d)) (read .value p room i)
-          ∙ sym (first-lowered d t (getD (registersOf p bytes) (t * 2 ^ d) 0))) f
-          ∙ block-lowered (registersOf p bytes) d t at (scan .low) (scan .high)
-          (λ (x : ℕ) (a : t * 2 ^ d + 1 ≤ x) (b : x < at). scan .none p x room w a b) (scan .found p room w);
-    }
+module _ (bytes : List ℕ) (d t first : ℕ) (read : ReadPost bytes (t * 2 ^ d) first) where
+  first-is : (p : ℕ) → registerBytes p ≤ length bytes → d ≤ p → t < 2 ^ (p - d) → first ≡ getD (registersOf p bytes) (t * 2 ^ d) 0
+  first-is p room h l = read .value p room (let i : t * 2 ^ d < 2 ^ p = omega (arith, block-within p d t h l, pow-pos d) in i)
+
+  first-post : 0 < first → BlockPost bytes d t (first + d)
+  first-post some =
+      record {
+        value = λ (p : ℕ) (room : registerBytes p ≤ length bytes) (h : d ≤ p) (l : t < 2 ^ (p - d)).
+            let e = first-is p room h l in
+            ap (λ (n : ℕ). n + d) e ∙ first-decides (registersOf p bytes) d t (subst (λ (n : ℕ). 0 < n) e some);
+      }
+
+  block-post : (r at : ℕ) → first ≡ 0 → ScanPost bytes (t * 2 ^ d + 1) (t * 2 ^ d + 2 ^ d) at → r ≡ offsetRank d (at - t * 2 ^ d) → BlockPost bytes d t r
+  block-post r at z scan f =
+      record {
+        value = λ (p : ℕ) (room : registerBytes p ≤ length bytes) (h : d ≤ p) (l : t < 2 ^ (p - d)).
+            let w = block-within p d t h l in
+            f
+            ∙ block-lowered (registersOf p bytes) d t at (scan .low) (scan .high)
+            (λ (x : ℕ) (a : t * 2 ^ d ≤ x) (b : x < at).
+            ⊎-elim (λ (c : t * 2 ^ d < x). scan .none p x room w (omega arith) b)
+            (λ (c : x ≤ t * 2 ^ d).
+            let e : x ≡ t * 2 ^ d = omega arith in
+            ap (λ (n : ℕ). getD (registersOf p bytes) n 0) e ∙ sym (first-is p room h l) ∙ z) (side (t * 2 ^ d) x)) (scan .found p room w);
+      }
 
 -- As the code has it, with the block's length in a variable.
 module _ (bytes : List ℕ) (d t block : ℕ) (pre : BlockPre d t bytes) (size : block ≡ 2 ^ d) where
@@ -529,11 +542,16 @@ module _ (bytes : List ℕ) (d t block : ℕ) (pre : BlockPre d t bytes) (size :
         holds = record { precision = pre .precision; room = pre .holds .room; within = code-within };
       }
 
-  pub code-block : (first r head tail at : ℕ) → ReadPost bytes (t * block) first → head ≡ cond (eqb first 0) 0 (first + d)
-      → ScanPost bytes (t * block + 1) (t * block + block) at → tail ≡ offsetRank d (at - t * block) → r ≡ max head tail → BlockPost bytes d t r
-  code-block first r head tail at read e scan f g =
-      block-post bytes d t first r head tail at (subst (λ (b : ℕ). ReadPost bytes (t * b) first) size read) e
-      (subst (λ (b : ℕ). ScanPost bytes (t * b + 1) (t * b + b) at) size scan) (f ∙ ap (λ (b : ℕ). offsetRank d (at - t * b)) size) g
+  pub code-decides : (first : ℕ) → ReadPost bytes (t * block) first → (first ≡ 0 → ⊥) → BlockPost bytes d t (first + d)
+  code-decides first read some =
+      first-post bytes d t first (subst (λ (b : ℕ). ReadPost bytes (t * b) first) size read)
+      (⊎-elim (λ (z : first ≡ 0). absurd (some z)) (λ (h : 0 < first). h) (none-or first))
+
+  pub code-block : (first r at : ℕ) → ReadPost bytes (t * block) first → first ≡ 0 → ScanPost bytes (t * block + 1) (t * block + block) at
+      → r ≡ offsetRank d (at - t * block) → BlockPost bytes d t r
+  code-block first r at read z scan f =
+      block-post bytes d t first (subst (λ (b : ℕ). ReadPost bytes (t * b) first) size read) r at z
+      (subst (λ (b : ℕ). ScanPost bytes (t * b + 1) (t * b + b) at) size scan) (f ∙ ap (λ (b : ℕ). offsetRank d (at - t * b)) size)
 
 -- ---- lowering into other registers
 

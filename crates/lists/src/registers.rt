@@ -169,25 +169,20 @@ fn offset_rank(o: u32, d: u32) -> u8
     (u32::leading_zeros(o) + d - 31) as u8
 }
 
-// A register whose low d index bits are zero, lowered by d bits.
-fn lowered_first(r: u8, d: u32) -> u8
-    requires { ⌜ r + d < 256 ⌝ }
-    ensures { λ x. ⌜ x ≡ cond (eqb r 0) 0 (r + d) ⌝ }
-{
-    if r == 0 { 0 } else { r + d as u8 }
-}
-
-// Register t of those lowered by d bits: 2^d registers land on it. The first of these counts by its value, and of the others the first that is not
-// zero, since a smaller offset has a larger rank.
+// Register t of those lowered by d bits: 2^d registers land on it. The first of these gives more than any other where it is not zero, and else the
+// first that is not zero does, since a smaller offset has a larger rank.
 fn lowered_block(registers: &[u8], d: u32, t: usize) -> u8
     requires { ⌜ BlockPre d t (now registers) ⌝ }
     ensures { λ r. ⌜ BlockPost (now (registers .entry)) d t r ⌝ }
 {
     let block = register_count(d);
     let from = t * block;
-    let first = lowered_first(read_register(registers, from), d);
+    let r = read_register(registers, from);
+    if r != 0 {
+        return r + d as u8;
+    }
     let at = first_not_zero(registers, from + 1, from + block);
-    larger(first, offset_rank((at - from) as u32, d))
+    offset_rank((at - from) as u32, d)
 }
 
 // Each of 2^q registers becomes the larger of itself and the source's, of precision q + d, lowered to it.

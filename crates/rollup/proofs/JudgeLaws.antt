@@ -1,16 +1,16 @@
 -- Questions 2 to 16, taken apart: what is known of a state that was accepted, fact by fact, and each question's answer on its own.
-use Prim.Native.Nat.{ℕ, zero, suc, _+_, _-_, _*_, _%_, _^_, _<_, _≤_}
-use mathlib.Core.Path.{_≡_, refl, sym, ap, _∙_, subst}
+use Prim.Native.Nat.{ℕ, zero, suc, _+_, _-_, _*_, _%_, _^_, _<_, _≤_, min}
+use mathlib.Core.Path.{_≡_, refl, sym, ap, ap₂, _∙_, subst}
 use mathlib.Core.Bool.{Bool, true, false, cond, _&&_, _||_, not}
 use mathlib.Core.List.{List, [], _∷_}
 use mathlib.Core.Option.{Option, none, some}
-use mathlib.Core.Logic.{_⊎_, inl, inr}
+use mathlib.Core.Logic.{_⊎_, inl, inr, ⊎-elim}
 use native.Mathlib.Omega.{arith}
 use lib.Dec.{leb, eqb}
 use lib.ListN.{length, take, drop, length-take, length-drop}
 use lib.Bits.{bitAnd}
 use borrow.Author.Tests.{leb-true, le-leb, lt-leb, eqb-true, eq-eqb, ne-eqb, not-true, not-false}
-use Rattle.wire.proofs.BoolLaws.{both-true, said-yes, said-no}
+use Rattle.wire.proofs.BoolLaws.{both, both-true, said-yes, said-no}
 use Rattle.wire.specs.Reading.{Read, got, refused, andThen}
 use Rattle.wire.proofs.VarintLaws.{side}
 use Rattle.wire.specs.State.{HllState, State, bytesOrNone, stateOf, readState, whenPresent, HllInside, parsedMeans, ParsePost}
@@ -733,19 +733,19 @@ module _ (a : Accumulator) (m : Mem) (room : ℕ) (st : State) where
         (empty-no (listOf st) (λ (z : length (listOf st) ≡ 0). h (ap length same ∙ z)))
         ∙ ap (λ (l : List ℕ). cellsIn m room (a .«sparse_len» + a .«pending_len» + length l)) (sym same)
 
-module _ (m : Mem) (room w : ℕ) where
-  pub sparse-no : leb w (length (m .sparse)) ≡ false → cellsIn m room w ≡ false
-  sparse-no x = ap (λ (b : Bool). b && leb w (length (m .pending)) && leb w room) x
+-- The shortest of them tells for all three.
+leb-min : (w x y : ℕ) → leb w (min x y) ≡ (leb w x && leb w y)
+leb-min w x y =
+    ⊎-elim (λ (h : x < w). lt-leb w (min x y) (omega arith) ∙ sym (ap (λ (b : Bool). b && leb w y) (lt-leb w x h)))
+    (λ (h : w ≤ x).
+    ⊎-elim (λ (k : y < w). lt-leb w (min x y) (omega arith) ∙ sym (ap₂ (λ (b c : Bool). b && c) (le-leb w x h) (lt-leb w y k)))
+    (λ (k : w ≤ y). le-leb w (min x y) (omega arith) ∙ sym (both (le-leb w x h) (le-leb w y k))) (side y w)) (side x w)
 
-  module _ (x : leb w (length (m .sparse)) ≡ true) where
-    past-sparse : cellsIn m room w ≡ leb w (length (m .pending)) && leb w room
-    past-sparse = ap (λ (b : Bool). b && leb w (length (m .pending)) && leb w room) x
-
-    pub pending-no : leb w (length (m .pending)) ≡ false → cellsIn m room w ≡ false
-    pending-no y = past-sparse ∙ ap (λ (b : Bool). b && leb w room) y
-
-    pub pending-yes : leb w (length (m .pending)) ≡ true → cellsIn m room w ≡ leb w room
-    pending-yes y = past-sparse ∙ ap (λ (b : Bool). b && leb w room) y
+pub cells-least : (m : Mem) (room w x y : ℕ) → x ≡ min (length (m .sparse)) (length (m .pending)) → y ≡ min x room → leb w y ≡ cellsIn m room w
+cells-least m room w x y e f =
+    ap (leb w) (f ∙ ap (λ (n : ℕ). min n room) e)
+    ∙ leb-min w (min (length (m .sparse)) (length (m .pending))) room
+    ∙ ap (λ (b : Bool). b && leb w room) (leb-min w (length (m .sparse)) (length (m .pending)))
 
 -- What 17 tells where its answer is yes: of the cells, for a list that is not empty.
 pub record Room (a : Accumulator) (m : Mem) (room : ℕ) (st : State) : Type 0 where

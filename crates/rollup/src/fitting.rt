@@ -100,13 +100,13 @@ fn lists_fit(a: Accumulator, kept: &[u32], waiting: &[u32]) -> bool
     ensures { λ r. ⌜ r ≡ listsFit a (now (kept .entry)) (now (waiting .entry)) ⌝ }
 {
     let enc = values::Sparse::new(a.precision, a.sparse_precision);
-    if !checking::all_valid(enc, kept) {
-        return false;
-    }
     if !checking::all_valid(enc, waiting) {
         return false;
     }
     if !checking::is_ascending(kept) {
+        return false;
+    }
+    if !checking::all_valid_ascending(enc, kept) {
         return false;
     }
     merging::written_len(kept) <= a.sparse_bytes

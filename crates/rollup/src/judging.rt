@@ -5,7 +5,7 @@
 ghost use mathlib.Core.Path.{_≡_};
 ghost use mathlib.Core.List.{List};
 ghost use mathlib.Core.Bool.{_&&_, not};
-ghost use Prim.Native.Nat.{ℕ, _+_};
+ghost use Prim.Native.Nat.{ℕ, _+_, min};
 ghost use lib.Dec.{leb};
 ghost use lib.ListN.{length};
 ghost use Rattle.wire.specs.State.{stateOf, HllInside};
@@ -173,6 +173,13 @@ fn takes(cells: usize, kept: usize, waiting: usize, new: usize) -> bool
     new <= after_kept - waiting
 }
 
+// The smaller of two lengths.
+fn least(x: usize, y: usize) -> usize
+    ensures { λ r. ⌜ r ≡ min x y ⌝ }
+{
+    if x < y { x } else { y }
+}
+
 // 17. `bytes` are those that `f` was read from.
 pub(crate) fn has_room(
     a: Accumulator,
@@ -194,13 +201,8 @@ pub(crate) fn has_room(
     if n == 0 {
         return true;
     }
-    if !takes(sparse.len(), a.sparse_len, a.pending_len, n) {
-        return false;
-    }
-    if !takes(pending.len(), a.sparse_len, a.pending_len, n) {
-        return false;
-    }
-    takes(scratch.len(), a.sparse_len, a.pending_len, n)
+    let cells = least(least(sparse.len(), pending.len()), scratch.len());
+    takes(cells, a.sparse_len, a.pending_len, n)
 }
 
 // 18 to 20: the list's values, into `scratch`. A state without list bytes has no values, and its s may be one that no list can have.

@@ -1,16 +1,15 @@
--- Each return is the definition's answer where the memory before it suffices and this one does not; without list bytes no cell is asked for.
+-- Each return is the definition's answer where the memory before it suffices; without list bytes no cell is asked for.
 use Prim.Native.Nat.{ℕ, _+_, _≤_}
 use mathlib.Core.Path.{_≡_, sym, _∙_, subst}
 use mathlib.Core.Bool.{Bool}
 use mathlib.Core.List.{List}
 use lib.ListN.{length}
-use borrow.Author.Needs.{needs}
 use denote.Ref.{now}
-use Rattle.wire.proofs.BoolLaws.{said-yes, said-no}
 use Rattle.wire.specs.State.{State, stateOf}
 use Rattle.rollup.specs.Accumulator.{Mem, mem}
 use Rattle.rollup.specs.Adding.{wantedCells, hasRoom}
-use Rattle.rollup.proofs.JudgeLaws.{wanted-high, cellsIn, registers-no, registers-yes, cells-none, cells-some, sparse-no, pending-no, pending-yes}
+use Rattle.rollup.proofs.JudgeLaws.{wanted-high, cellsIn, registers-no, registers-yes, cells-none, cells-some, cells-least}
+use borrow.Author.Needs.{needs}
 use Rattle.rollup.proofs.judging.has_room.Statement.{statement}
 use Rattle.rollup.proofs.judging.has_room.Tie as tie
 
@@ -68,36 +67,21 @@ returns-2 c =
     sym (past-registers (c .before .before)
     ∙ cells-none (o .args .a) (m o) (room o) (st o) (now (c .before .sparse-data .result)) (c .before .sparse-data .ensures) (c .if2 .taken))
 
+least-requires : tie.Need-least-requires
+least-requires c κs = search needs
+
+least-requires-2 : tie.Need-least-requires-2
+least-requires-2 c κs = search needs
+
 takes-requires : tie.Need-takes-requires
 takes-requires c κs = search needs
 
 returns-3 : tie.Need-returns-3
 returns-3 c =
-    let o = c .before .before .before .before .before .before .before .before .before .before .before .before in
-    sym (past-empty (c .before .before)
-    ∙ sparse-no (m o) (room o) (sum o (now (c .before .before .before .sparse-data .result))) (said-no (c .before .takes .ensures) (c .if3 .taken)))
-
-takes-requires-2 : tie.Need-takes-requires-2
-takes-requires-2 c κs = search needs
-
-returns-4 : tie.Need-returns-4
-returns-4 c =
-    let o = c .before .before .before .before .before .before .before .before .before .before .before .before .before .before in
-    sym (past-empty (c .before .before .before .before)
-    ∙ pending-no (m o) (room o) (sum o (now (c .before .before .before .before .before .sparse-data .result)))
-    (said-yes (c .before .before .before .takes .ensures) (c .before .before .if3 .left)) (said-no (c .before .takes2 .ensures) (c .if4 .taken)))
-
-takes-requires-3 : tie.Need-takes-requires-3
-takes-requires-3 c κs = search needs
-
-returns-5 : tie.Need-returns-5
-returns-5 c =
-    let o = c .before .before .before .before .before .before .before .before .before .before .before .before .before .before .before in
-    c .takes3 .ensures
-    ∙ sym (past-empty (c .before .before .before .before .before)
-    ∙ pending-yes (m o) (room o) (sum o (now (c .before .before .before .before .before .before .sparse-data .result)))
-    (said-yes (c .before .before .before .before .takes .ensures) (c .before .before .before .if3 .left))
-    (said-yes (c .before .before .takes2 .ensures) (c .before .if4 .left)))
+    let o = c .before .before .before .before .before .before .before .before .before .before .before .before .before in
+    c .takes .ensures
+    ∙ cells-least (m o) (room o) (sum o (now (c .before .before .before .before .sparse-data .result))) (c .before .before .least .result) (c .before .least2 .result) (c .before .before .least .ensures) (c .before .least2 .ensures)
+    ∙ sym (past-empty (c .before .before .before))
 
 pub has-room-spec : {M : Type 1} → statement M
 has-room-spec =
@@ -108,9 +92,7 @@ has-room-spec =
     returns
     sparse-data-requires
     returns-2
+    least-requires
+    least-requires-2
     takes-requires
-    returns-3
-    takes-requires-2
-    returns-4
-    takes-requires-3
-    returns-5)
+    returns-3)
