@@ -270,6 +270,30 @@ fn growth(title: &str, unit: &str, cases: &[(Case, f64)]) {
     }
 }
 
+/// The share of the machine's memory speed: how long a copy of a state's registers over others takes, as a part of the time for adding it. A copy reads the
+/// state once and writes the registers once; adding reads the state twice (question 14, and then the larger of each) and the registers once, and writes these once.
+fn memory(cases: &[(Case, f64)]) {
+    println!("\n| dense into dense, p | a copy of the registers / `filmoed_fold` | a copy of the registers / `add_bytes` |");
+    println!("|---|---|---|");
+    for (case, _) in cases {
+        let t = time(case);
+        let mut target = vec![0; case.registers];
+        let copies = (0..RUNS + 5)
+            .map(|_| {
+                timed(|| {
+                    for state in &case.states {
+                        target.copy_from_slice(&black_box(state)[state.len() - case.registers..]);
+                        black_box(&target);
+                    }
+                })
+            })
+            .skip(5)
+            .collect();
+        let copy = median(copies);
+        println!("| {} | {} | {} |", case.name, ratio(copy, t.fold), ratio(copy, t.add_bytes));
+    }
+}
+
 /// Writing: `filmoed_write`, which asks question 1, and `serialize`, which gives a new `Vec`.
 fn writing(chance: &mut Chance) {
     println!("\n| writing | `filmoed_write` / `serialize` |");
@@ -362,6 +386,7 @@ pub fn run() {
         })
         .collect();
     growth("dense into dense, p", "register", &by_p);
+    memory(&by_p);
     let pair = (16, 21);
     let waiting: Vec<(Case, f64)> = [1, 4, 16, 64, 256, 1024]
         .iter()
