@@ -111,6 +111,14 @@ pub onto-nothing : (r : Option (List ℕ)) → r ≡ onto [] r
 onto-nothing none = refl
 onto-nothing (some l) = refl
 
+-- A number that is stored behind those that stand there.
+pub onto-stored : (out : List ℕ) (i x : ℕ) → i < length out → (r : Option (List ℕ)) → onto (take i out) (consTo x r) ≡ onto (take (i + 1) (set out i x)) r
+onto-stored out i x h none = refl
+onto-stored out i x h (some l) = ap some (sym (append-snoc (take i out) x l) ∙ ap (λ (f : List ℕ). f ++ l) (sym front))
+  where
+    front : take (i + 1) (set out i x) ≡ take i out ++ (x ∷ [])
+    front = ap (λ (n : ℕ). take n (set out i x)) (add-one i) ∙ take-suc-set out i x h
+
 module _ (high low : ℕ) (r : Option (List ℕ)) where
   byte-high : 16 ≤ high → byteThen high low r ≡ none
   byte-high h = rw (le-ltb high 16 h)
@@ -166,14 +174,7 @@ module _ (word : List ℕ) (i : ℕ) (h : 2 * i + 1 < length word) where
       (hex-pair
       ∙ ap₂ (λ (m n : ℕ). byteThen m n (hexOf (drop (2 * (i + 1)) word))) (sym ea) (sym eb)
       ∙ byte-both a b (hexOf (drop (2 * (i + 1)) word)) la lb)
-      ∙ moved (hexOf (drop (2 * (i + 1)) word))
-    where
-      front : take (i + 1) (set out i (a * 16 + b)) ≡ take i out ++ ((a * 16 + b) ∷ [])
-      front = ap (λ (n : ℕ). take n (set out i (a * 16 + b))) (add-one i) ∙ take-suc-set out i (a * 16 + b) room
-
-      moved : (r : Option (List ℕ)) → onto (take i out) (consTo (a * 16 + b) r) ≡ onto (take (i + 1) (set out i (a * 16 + b))) r
-      moved none = refl
-      moved (some l) = ap some (sym (append-snoc (take i out) (a * 16 + b) l) ∙ ap (λ (f : List ℕ). f ++ l) (sym front))
+      ∙ onto-stored out i (a * 16 + b) room (hexOf (drop (2 * (i + 1)) word))
 
 pub hex-end : (word done : List ℕ) (k : ℕ) → length word ≤ k → onto done (hexOf (drop k word)) ≡ some done
 unfolding hexOf

@@ -1,17 +1,17 @@
 -- The words of a line, and what reading a number of 32 bits and a list answers.
 use mathlib.Core.Path.{_≡_}
-use mathlib.Core.List.{List}
+use mathlib.Core.List.{List, [], _∷_}
 use mathlib.Core.Bool.{cond}
 use mathlib.Core.Option.{Option, none, some}
 use Prim.Native.Nat.{ℕ, zero, suc, _+_, _^_, _≤_}
-use lib.Dec.{ltb}
+use lib.Dec.{ltb, eqb}
 use lib.ListN.{length, take, drop}
 use Rattle.io.specs.Counts.{Counts}
 use Rattle.cases.specs.declared.text.Value.{Value}
 use Rattle.cases.specs.declared.text.Value.the-variants.{Is, Other as ValueOther}
 use Rattle.cases.specs.declared.text.Listed.{Listed}
 use Rattle.cases.specs.declared.text.Listed.the-variants.{Count, Other}
-use Rattle.cases.specs.Input.{upTo}
+use Rattle.cases.specs.Input.{upTo, decimalOf, consTo}
 
 -- A line from the word on that has k others before it. A blank, 32, ends a word.
 unfoldable pub wordsFrom : ℕ → List ℕ → List ℕ
@@ -38,7 +38,24 @@ abbrev pub orZero : Option ℕ → ℕ
 orZero none = 0
 orZero (some v) = v
 
--- The count lies inside the memory that is lent. That it is the right list, the answers of the cases show.
-abbrev pub ListedPost : List ℕ → Listed → Type 0
-ListedPost out (Count n) = Counts n out
-ListedPost out Other = Unit
+-- A number in front of a list, where both are there.
+abbrev pub valueThen : Option ℕ → Option (List ℕ) → Option (List ℕ)
+valueThen none rest = none
+valueThen (some v) rest = consTo v rest
+
+-- Decimal numbers of 32 bits, `room` at most. A comma, 44, ends a number, and behind the last one there is none, unless bytes follow.
+unfoldable pub valuesIn : ℕ → List ℕ → Option (List ℕ)
+valuesIn zero [] = some []
+valuesIn zero (b ∷ l) = none
+valuesIn (suc room) [] = some []
+valuesIn (suc room) (b ∷ l) = valueThen (below32 (decimalOf (take (upTo 44 (b ∷ l)) (b ∷ l)))) (valuesIn room (drop (upTo 44 (b ∷ l) + 1) (b ∷ l)))
+
+-- A word as a list of at most `room` numbers. One that begins with a point, 46, is the empty list.
+abbrev pub listIn : ℕ → List ℕ → Option (List ℕ)
+listIn room [] = none
+listIn room (b ∷ l) = cond (eqb b 46) (some []) (valuesIn room (b ∷ l))
+
+-- The values of the definition's answer stand at the front, and the answer is how many they are; or there are none.
+abbrev pub ListedPost : Option (List ℕ) → Listed → List ℕ → Type 0
+ListedPost l (Count n) after = (l ≡ some (take n after)) × Counts n after
+ListedPost l Other after = l ≡ none
