@@ -39,7 +39,7 @@ use Rattle.rollup.specs.declared.writing.Written.{Written}
 use Rattle.rollup.specs.Accumulator.{Mem, mem, keptOf, waitingOf, limit, fits}
 use Rattle.rollup.specs.Adding.{isStarted}
 use Rattle.rollup.specs.Writing.{flushed, currentSize, stateWith, stateForm, belowLimit, unless, writeOutcome, WritePost}
-use Rattle.rollup.specs.WritingPaths.{Writes, viewOf, listOutcome, ValuesPre, FlushPre, FlushPost}
+use Rattle.rollup.specs.WritingPaths.{Writes, writtenFields, listOutcome, ValuesPre, FlushPre, FlushPost}
 use Rattle.rollup.proofs.FitLaws.{FitSparse, fit-sparse, fit-dense, whole-sparse, limit-small}
 use Rattle.rollup.proofs.SparseLaws.{at-pair, of-pair, counts-short, valid-sort, merged-sort, merge-post}
 
@@ -106,7 +106,7 @@ module _ (a : Accumulator) (size : ℕ) (l : List ℕ) (bytes : ℕ) (pre : Valu
     to-encode space =
         go 22 (lt-ltb (written l) (limit (a .precision)) (let g : written l < limit (a .precision) = omega (arith, pre .count) in g))
 
-    module _ (f : Fields) (e : f ≡ viewOf a size false 0 bytes) where
+    module _ (f : Fields) (e : f ≡ writtenFields a size false 0 bytes) where
       pub head-pre : length (bytesOrNone (stateOf [] f .hll .«data»)) + f .hll .«sparse_data» .len < 2 ^ 63
       head-pre =
           subst (λ (g : Fields). length (bytesOrNone (stateOf [] g .hll .«data»)) + g .hll .«sparse_data» .len < 2 ^ 63) (sym e)
@@ -118,7 +118,7 @@ module _ (a : Accumulator) (size : ℕ) (l : List ℕ) (bytes : ℕ) (pre : Valu
       head-view : head ≡ headOf listState bytes
       head-view =
           ap (λ (g : Fields). headOf (stateOf [] g) (g .hll .«sparse_data» .len)) e
-          ∙ head-any (stateOf [] (viewOf a size false 0 bytes)) (some (encodeList l)) bytes
+          ∙ head-any (stateOf [] (writtenFields a size false 0 bytes)) (some (encodeList l)) bytes
 
       whole : encodeOf listState ≡ head ++ encodeList l
       whole =
@@ -191,13 +191,13 @@ module _ (a : Accumulator) (registers out : List ℕ) where
   denseState = stateWith a (a .«sparse_size») (some (registersOf (a .precision) registers)) none
 
   -- The data field is the register bytes.
-  state-view : (f : Fields) (n : ℕ) → n ≡ registerBytes (a .precision) → f ≡ viewOf a (a .«sparse_size») true n 0 → stateOf registers f ≡ denseState
+  state-view : (f : Fields) (n : ℕ) → n ≡ registerBytes (a .precision) → f ≡ writtenFields a (a .«sparse_size») true n 0 → stateOf registers f ≡ denseState
   state-view f n e g =
       ap (stateOf registers) g
       ∙ ap (λ (k : ℕ). stateWith a (a .«sparse_size») (some (take k registers)) none) e
       ∙ ap (λ (d : List ℕ). stateWith a (a .«sparse_size») (some d) none) (sym (registers-are (a .precision) registers))
 
-  module _ (f : Fields) (n : ℕ) (e : n ≡ registerBytes (a .precision)) (g : f ≡ viewOf a (a .«sparse_size») true n 0) (r : Encoded) (after : List ℕ)
+  module _ (f : Fields) (n : ℕ) (e : n ≡ registerBytes (a .precision)) (g : f ≡ writtenFields a (a .«sparse_size») true n 0) (r : Encoded) (after : List ℕ)
       (p : EncodePost (stateOf registers f) out r after) where
     encoded : EncodePost denseState out r after
     encoded = subst (λ (st : State). EncodePost st out r after) (state-view f n e g) p

@@ -26,8 +26,8 @@ pub record Writes (x : Output) (out : List ℕ) (r : Written) (after : List ℕ)
 
 -- The fields of a state of the head's numbers: either field 5 or field 6 is there. Its bytes are the first that are lent; where other bytes
 -- follow the head (`encode_head`), only how many they are counts.
-abbrev pub viewOf : Accumulator → ℕ → Bool → ℕ → ℕ → Fields
-viewOf a size dense dataLen sparseLen =
+abbrev pub writtenFields : Accumulator → ℕ → Bool → ℕ → ℕ → Fields
+writtenFields a size dense dataLen sparseLen =
     record {
       «aggregator_type» = 112;
       «num_values» = a .«num_values»;

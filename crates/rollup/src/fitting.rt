@@ -6,10 +6,11 @@ ghost use mathlib.Core.List.{[]};
 ghost use Prim.Native.Nat.{_≤_};
 ghost use lib.Dec.{eqb};
 ghost use Rattle.lists.specs.Values.{Pair};
-ghost use Rattle.rollup.specs.Accumulator.{mem, limit, normalRange, sparseRange, noLists, sparseFits, denseFits, fits as headFits};
+ghost use Rattle.rollup.specs.Accumulator.{mem, limit, normalRange, noLists, sparseFits, denseFits, fits as headFits};
 ghost use Rattle.rollup.specs.Fitting.{rangesFit, waitingFits, countsFit, listsFit, registersFit};
 use crate::accumulator::Accumulator;
 use crate::accumulator::Form;
+use crate::header;
 use lists::checking;
 use lists::merging;
 use lists::registers::largest_register;
@@ -26,32 +27,14 @@ fn no_lists(a: Accumulator) -> bool
     a.pending_len == 0
 }
 
-fn normal_range(p: u32) -> bool
-    ensures { λ r. ⌜ r ≡ normalRange p ⌝ }
-{
-    if p < 4 {
-        return false;
-    }
-    p <= 24
-}
-
-fn sparse_range(p: u32, s: u32) -> bool
-    ensures { λ r. ⌜ r ≡ sparseRange p s ⌝ }
-{
-    if s < p {
-        return false;
-    }
-    s <= 25
-}
-
 // Whether the precisions are those that a list can have.
 pub(crate) fn ranges_fit(p: u32, s: u32) -> bool
     ensures { λ r. ⌜ r ≡ rangesFit p s ⌝ }
 {
-    if !normal_range(p) {
+    if !header::check_normal_precision(p) {
         return false;
     }
-    sparse_range(p, s)
+    header::check_sparse_precision(p, s)
 }
 
 // The number of bytes from which on a list turns dense, document 01's L. Ported from `max_sparse_bytes` in src/accumulator.rs of zetasketch-rs at commit
@@ -141,7 +124,7 @@ fn registers_fit(p: u32, registers: &[u8]) -> bool
 fn dense_fits(a: Accumulator, registers: &[u8]) -> bool
     ensures { λ r. ⌜ r ≡ normalRange (a .precision) && not (eqb (a .«sparse_precision») 0) && denseFits a (mem (now (registers .entry)) [] []) ⌝ }
 {
-    if !normal_range(a.precision) {
+    if !header::check_normal_precision(a.precision) {
         return false;
     }
     if a.sparse_precision == 0 {

@@ -62,7 +62,8 @@ pub fn allowed_types(value_type: u32) -> u8
     }
 }
 
-fn check_normal_precision(p: u32) -> bool
+// 4 to 24.
+pub(crate) fn check_normal_precision(p: u32) -> bool
     ensures { λ r. ⌜ r ≡ normalRange p ⌝ }
 {
     if p < 4 {
@@ -71,7 +72,8 @@ fn check_normal_precision(p: u32) -> bool
     p <= 24
 }
 
-fn check_sparse_precision(p: u32, s: u32) -> bool
+// p to 25.
+pub(crate) fn check_sparse_precision(p: u32, s: u32) -> bool
     ensures { λ r. ⌜ r ≡ sparseRange p s ⌝ }
 {
     if s < p {

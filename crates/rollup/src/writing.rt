@@ -13,7 +13,7 @@ ghost use Rattle.lists.specs.Registers.{registersOf};
 ghost use Rattle.rollup.specs.declared.accumulator.Form.the-variants.{Sparse as ListForm};
 ghost use Rattle.rollup.specs.Accumulator.{mem, fits as headFits};
 ghost use Rattle.rollup.specs.Writing.{stateWith, WritePost};
-ghost use Rattle.rollup.specs.WritingPaths.{Writes, viewOf, listOutcome, ValuesPre, FlushPre, FlushPost};
+ghost use Rattle.rollup.specs.WritingPaths.{Writes, writtenFields, listOutcome, ValuesPre, FlushPre, FlushPost};
 use crate::accumulator::Accumulator;
 use crate::accumulator::Form;
 use crate::fitting;
@@ -41,7 +41,7 @@ const ENCODING_VERSION: u32 = 2;
 
 // The fields of a state of the head's numbers, with registers or with a list.
 fn view(a: Accumulator, size: u32, dense: bool, data_len: usize, sparse_len: usize) -> Fields
-    ensures { λ r. ⌜ r ≡ viewOf a size dense «data_len» «sparse_len» ⌝ }
+    ensures { λ r. ⌜ r ≡ writtenFields a size dense «data_len» «sparse_len» ⌝ }
 {
     let data = Part {
         start: 0,

@@ -6,16 +6,16 @@ use borrow.Author.Needs.{needs}
 use Rattle.rollup.proofs.fitting.dense_fits.Statement.{statement}
 use Rattle.rollup.proofs.fitting.dense_fits.Tie as tie
 
-normal-range-requires : tie.Need-normal-range-requires
-normal-range-requires c κs = search needs
+check-normal-precision-requires : tie.Need-check-normal-precision-requires
+check-normal-precision-requires c κs = search needs
 
 returns : tie.Need-returns
-returns c = asked-normal (c .before .before .before .args .a) (c .before .before .before .args .registers .now) (said-no (c .before .normal-range .ensures) (c .if1 .taken))
+returns c = asked-normal (c .before .before .before .args .a) (c .before .before .before .args .registers .now) (said-no (c .before .check-normal-precision .ensures) (c .if1 .taken))
 
 returns-2 : tie.Need-returns-2
 returns-2 c =
     let o = c .before .before .before .before .before in
-    asked-sparse (o .args .a) (o .args .registers .now) (said-yes (c .before .before .before .normal-range .ensures) (c .before .before .if1 .left)) (c .if2 .taken)
+    asked-sparse (o .args .a) (o .args .registers .now) (said-yes (c .before .before .before .check-normal-precision .ensures) (c .before .before .if1 .left)) (c .if2 .taken)
 
 no-lists-requires : tie.Need-no-lists-requires
 no-lists-requires c κs = search needs
@@ -23,23 +23,23 @@ no-lists-requires c κs = search needs
 returns-3 : tie.Need-returns-3
 returns-3 c =
     let o = c .before .before .before .before .before .before .before in
-    asked-none (o .args .a) (o .args .registers .now) (said-yes (c .before .before .before .before .before .normal-range .ensures) (c .before .before .before .before .if1 .left)) (c .before .before .if2 .left) (said-no (c .before .no-lists .ensures) (c .if3 .taken))
+    asked-none (o .args .a) (o .args .registers .now) (said-yes (c .before .before .before .before .before .check-normal-precision .ensures) (c .before .before .before .before .if1 .left)) (c .before .before .if2 .left) (said-no (c .before .no-lists .ensures) (c .if3 .taken))
 
 registers-fit-requires : tie.Need-registers-fit-requires
-registers-fit-requires c κs = let o = c .before .before .before .before .before .before .before in range-of (o .args .a .precision) (said-yes (c .before .before .before .before .before .normal-range .ensures) (c .before .before .before .before .if1 .left))
+registers-fit-requires c κs = let o = c .before .before .before .before .before .before .before in range-of (o .args .a .precision) (said-yes (c .before .before .before .before .before .check-normal-precision .ensures) (c .before .before .before .before .if1 .left))
 
 returns-4 : tie.Need-returns-4
 returns-4 c =
     let o = c .before .before .before .before .before .before .before .before in
     c .registers-fit .ensures
-    ∙ asked-registers (o .args .a) (o .args .registers .now) (said-yes (c .before .before .before .before .before .before .normal-range .ensures) (c .before .before .before .before .before .if1 .left)) (c .before .before .before .if2 .left)
+    ∙ asked-registers (o .args .a) (o .args .registers .now) (said-yes (c .before .before .before .before .before .before .check-normal-precision .ensures) (c .before .before .before .before .before .if1 .left)) (c .before .before .before .if2 .left)
     (said-yes (c .before .before .no-lists .ensures) (c .before .if3 .left))
 
 pub dense-fits-spec : {M : Type 1} → statement M
 dense-fits-spec =
     tie.close
     (tie.spec
-    normal-range-requires
+    check-normal-precision-requires
     returns
     returns-2
     no-lists-requires

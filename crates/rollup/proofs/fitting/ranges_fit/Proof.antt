@@ -7,22 +7,22 @@ use borrow.Author.Needs.{needs}
 use Rattle.rollup.proofs.fitting.ranges_fit.Statement.{statement}
 use Rattle.rollup.proofs.fitting.ranges_fit.Tie as tie
 
-normal-range-requires : tie.Need-normal-range-requires
-normal-range-requires c κs = search needs
+check-normal-precision-requires : tie.Need-check-normal-precision-requires
+check-normal-precision-requires c κs = search needs
 
 returns : tie.Need-returns
 returns c =
     let o = c .before .before in
-    sym (nay (sparseRange (o .args .p) (o .args .s)) (said-no (c .before .normal-range .ensures) (c .if1 .taken)))
+    sym (nay (sparseRange (o .args .p) (o .args .s)) (said-no (c .before .check-normal-precision .ensures) (c .if1 .taken)))
 
-sparse-range-requires : tie.Need-sparse-range-requires
-sparse-range-requires c κs = search needs
+check-sparse-precision-requires : tie.Need-check-sparse-precision-requires
+check-sparse-precision-requires c κs = search needs
 
 returns-2 : tie.Need-returns-2
 returns-2 c =
     let o = c .before .before .before in
-    c .sparse-range .ensures ∙ sym (yes (sparseRange (o .args .p) (o .args .s)) (said-yes (c .before .before .normal-range .ensures) (c .before .if1 .left)))
+    c .check-sparse-precision .ensures ∙ sym (yes (sparseRange (o .args .p) (o .args .s)) (said-yes (c .before .before .check-normal-precision .ensures) (c .before .if1 .left)))
 
 pub ranges-fit-spec : {M : Type 1} → statement M
 ranges-fit-spec =
-    tie.close (tie.spec normal-range-requires returns sparse-range-requires returns-2)
+    tie.close (tie.spec check-normal-precision-requires returns check-sparse-precision-requires returns-2)
