@@ -337,10 +337,11 @@ fn writing(chance: &mut Chance) {
     }
 }
 
-/// Parsing alone: states of another type, which are read and then refused with 7, beside `StateView::parse`.
+/// Parsing alone: states of another type, which are read and then refused with 7, beside `StateView::parse`. And the loop alone: states without bytes, which are
+/// refused with 8.
 fn parsing(chance: &mut Chance) {
-    println!("\n| parsing alone | `filmoed_fold`, 7 / `StateView::parse` |");
-    println!("|---|---|");
+    println!("\n| parsing alone | `filmoed_fold`, 7 / `StateView::parse` | as many states without bytes, 8 / `StateView::parse` |");
+    println!("|---|---|---|");
     let pair = (15, 20);
     for (name, states) in [
         ("lists of 1 to 5 values", list_states(chance, pair, 1000, 1, 5)),
@@ -351,8 +352,13 @@ fn parsing(chance: &mut Chance) {
         let (bytes, ends) = joined(&states);
         let mut side = Side::new(10, 1 << 15, 100, 100, 100);
         let mut answers = vec![0; states.len()];
-        let (mut rust, mut here) = (Vec::new(), Vec::new());
+        let none = vec![0; states.len()];
+        let (mut rust, mut here, mut empty) = (Vec::new(), Vec::new(), Vec::new());
         for run in 0..RUNS + 5 {
+            let e = timed(|| {
+                black_box(side.fold(black_box(&[]), &none, &mut answers));
+            });
+            assert!(answers.iter().all(|a| *a == 8));
             let h = timed(|| {
                 black_box(side.fold(black_box(&bytes), &ends, &mut answers));
             });
@@ -362,12 +368,14 @@ fn parsing(chance: &mut Chance) {
                 }
             });
             if run >= 5 {
+                empty.push(e);
                 here.push(h);
                 rust.push(r);
             }
         }
         assert!(answers.iter().all(|a| *a == 7));
-        println!("| {name} | {} |", ratio(median(here), median(rust)));
+        let rust = median(rust);
+        println!("| {name} | {} | {} |", ratio(median(here), rust), ratio(median(empty), rust));
     }
 }
 
