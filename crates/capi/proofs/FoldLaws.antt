@@ -7,18 +7,21 @@ use mathlib.Core.Logic.{⊎-elim}
 use native.Mathlib.Nat.{min-eq-left, min-eq-right, min-le-right}
 use native.Mathlib.Omega.{arith}
 use lib.ListN.{length, getD, take, drop, set, length-set, length-append, length-take, length-drop, drop-of-length-le}
-use lib.Seq.{take-all, take-suc-set, drop-cons, drop-set-lt, drop-drop, length-take-le}
+use lib.Seq.{take-all, take-suc-set, drop-cons, drop-set-lt, drop-drop, getD-set-same, length-take-le}
 use Rattle.wire.proofs.VarintLaws.{side}
 use Rattle.rollup.specs.declared.accumulator.Accumulator.{Accumulator}
 use Rattle.rollup.specs.declared.adding.Added.{Added}
 use Rattle.rollup.specs.Accumulator.{Mem, fits}
 use Rattle.rollup.specs.Adding.{Free, AddPost}
 use Rattle.rollup.specs.Calls.{Call, added, Run, adding}
+use Rattle.rollup.specs.SparsePaths.{KnownDistinct}
+use Rattle.rollup.specs.Knowing.{keptDistinct}
 use Rattle.rollup.proofs.ViewLaws.{add-keeps}
+use Rattle.rollup.proofs.KnowingLaws.{kept-known}
 use Rattle.batch.specs.Batch.{addedAll}
 use Rattle.batch.proofs.ChainLaws.{added-last, same-cells}
 use Rattle.capi.specs.Heads.{isHead, headIn, withHead}
-use Rattle.capi.specs.Folds.{between, splits, FoldPre, FoldedPost, FoldRowPost}
+use Rattle.capi.specs.Folds.{between, splits, FoldPre, FoldedPost, LoopPost, FoldRowPost}
 use Rattle.capi.proofs.CallLaws.{Found}
 
 -- ---- the bytes between two ends
@@ -68,11 +71,13 @@ pub record Folding (a : Accumulator) (m : Mem) (room : ℕ) (bytes ends before :
   pub fit : fits h n ≡ true
   pub run : (first : Mem) (calls : List Call) → Run room first calls a m → Run room first (addedAll done (take i answers) calls) h n
   pub free : Free m n
+  pub none-yet : i ≡ 0 → (h ≡ a) × (n ≡ m) × (start ≡ 0)
+  pub one-only : i ≡ 1 → AddPost a m room (between bytes 0 (getD ends 0 0)) (record { answer = getD answers 0 0; head = h }) n
 
-pub fold-start : (a : Accumulator) (m : Mem) (room : ℕ) (bytes ends before : List ℕ) → FoldPre a m ends before
+pub fold-start : (a : Accumulator) (m : Mem) (room : ℕ) (bytes ends before : List ℕ) (known : Bool) → FoldPre a m ends before known
     → Folding a m room bytes ends before 0 0 a m before
 unfolding addedAll
-fold-start a m room bytes ends before pre =
+fold-start a m room bytes ends before known pre =
     record {
       done = [];
       count = refl;
@@ -84,6 +89,8 @@ fold-start a m room bytes ends before pre =
       fit = pre .fit;
       run = λ (first : Mem) (calls : List Call) (x : Run room first calls a m). x;
       free = same-cells m;
+      none-yet = λ (e : _≡_ {A = ℕ} 0 0). (refl, refl, refl);
+      one-only = λ (e : _≡_ {A = ℕ} 0 1). absurd (let z : ⊥ = omega arith in z);
     }
 
 module _ (a : Accumulator) (m : Mem) (room : ℕ) (bytes ends before : List ℕ) (start i : ℕ) (h : Accumulator) (n : Mem) (answers : List ℕ)
@@ -127,10 +134,25 @@ module _ (a : Accumulator) (m : Mem) (room : ℕ) (bytes ends before : List ℕ)
               sparse = post .free .sparse ∙ g .free .sparse;
               pending = post .free .pending ∙ g .free .pending;
             };
+        none-yet = λ (z : i + 1 ≡ 0). absurd (let y : ⊥ = omega arith in y);
+        one-only = λ (z : i + 1 ≡ 1).
+            let first : i ≡ 0 = omega arith in
+            let same = g .none-yet first in
+            let state : s ≡ between bytes 0 (getD ends 0 0) =
+            f
+            ∙ ap₂ (λ (x y : ℕ). between bytes x y) (same .2) (e ∙ ap (λ (k : ℕ). getD ends k 0) first) in
+            let answer : r .answer ≡ getD (set answers i (r .answer)) 0 0 =
+            sym
+            (ap (λ (k : ℕ). getD (set answers i (r .answer)) k 0) (sym first)
+            ∙ getD-set-same answers i (r .answer) 0 room-here) in
+            subst (λ (x : Accumulator). AddPost x m room (between bytes 0 (getD ends 0 0)) (record { answer = getD (set answers i (r .answer)) 0 0; head = r .head }) l) (same .0)
+            (subst (λ (x : Mem). AddPost h x room (between bytes 0 (getD ends 0 0)) (record { answer = getD (set answers i (r .answer)) 0 0; head = r .head }) l) (same .1)
+            (subst (λ (x : List ℕ). AddPost h n room x (record { answer = getD (set answers i (r .answer)) 0 0; head = r .head }) l) state
+            (subst (λ (x : ℕ). AddPost h n room s (record { answer = x; head = r .head }) l) answer post)));
       }
 
-  pub fold-end : length ends ≤ i → FoldedPost a m room bytes ends before h n answers
-  fold-end past =
+  fold-whole : length ends ≤ i → FoldedPost a m room bytes ends before h n answers
+  fold-whole past =
       let all : i ≡ length ends = omega (arith, g .few) in
       let states : splits bytes 0 ends ≡ g .done =
       g .states
@@ -147,6 +169,27 @@ module _ (a : Accumulator) (m : Mem) (room : ℕ) (bytes ends before : List ℕ)
         cells = g .cells;
         free = g .free;
       }
+
+  pub fold-end : length ends ≤ i → LoopPost a m room bytes ends before h n answers
+  fold-end past =
+      record {
+        folded = fold-whole past;
+        one = λ (end : ℕ) (e : ends ≡ end ∷ []).
+            subst (λ (x : ℕ). AddPost a m room (between bytes 0 x) (record { answer = getD answers 0 0; head = h }) n)
+            (ap (λ (l : List ℕ). getD l 0 0) e) (g .one-only (omega (arith, g .few, ap (λ (l : List ℕ). length l) e)));
+      }
+
+-- ---- one state
+
+-- One cell for its answer; of the list nothing need be known.
+pub one-pre : (a : Accumulator) (m : Mem) (end cell : ℕ) → fits a m ≡ true → FoldPre a m (end ∷ []) (cell ∷ []) false
+one-pre a m end cell f = record { fit = f; room = omega arith; distinct = λ (e : false ≡ true). absurd (true≢false (sym e)) }
+
+pub one-state : (a : Accumulator) (m : Mem) (room : ℕ) (bytes answers : List ℕ) (r : Accumulator) (n : Mem) (left : List ℕ)
+    → LoopPost a m room bytes (length bytes ∷ []) answers r n left → AddPost a m room bytes (record { answer = getD left 0 0; head = r }) n
+one-state a m room bytes answers r n left post =
+    subst (λ (s : List ℕ). AddPost a m room s (record { answer = getD left 0 0; head = r }) n)
+    (take-all (length bytes - 0) bytes (omega arith)) (post .one (length bytes) refl)
 
 -- ---- of a head that is a row
 
@@ -179,11 +222,19 @@ module _ (row : List ℕ) (m : Mem) (room : ℕ) (bytes ends answers : List ℕ)
         ∙ sym (take-all (length answers) ends (let g : length ends ≤ length answers = omega arith in g)))
         (λ (h : length answers ≤ length ends). ap (λ (i : ℕ). take i ends) (e ∙ min-eq-right h)) (side (length ends) (length answers))
 
-    pub fold-pre : (k : ℕ) → fits a m ≡ true → k ≡ min (length ends) (length answers) → FoldPre a m (take k ends) answers
-    fold-pre k f e = record { fit = f; room = omega (arith, length-take k ends, e, min-le-right (length ends) (length answers)) }
+    pub fold-pre : (k : ℕ) (known : Bool) → fits a m ≡ true → k ≡ min (length ends) (length answers) → known ≡ keptDistinct (a .form) a (m .sparse)
+        → FoldPre a m (take k ends) answers known
+    fold-pre k known f e d =
+        record {
+          fit = f;
+          room = omega (arith, length-take k ends, e, min-le-right (length ends) (length answers));
+          distinct =
+              subst (λ (b : Bool). KnownDistinct b (a .precision) (a .«sparse_precision») (take (a .«sparse_len») (m .sparse))) (sym d)
+              (kept-known (a .form) a (m .sparse));
+        }
 
     pub fold-found : (k : ℕ) (h : Accumulator) (n : Mem) (left after : List ℕ) → fits a m ≡ true → k ≡ min (length ends) (length answers)
-        → FoldedPost a m room bytes (take k ends) answers h n left → after ≡ withHead h row → FoldRowPost row m room bytes ends answers 0 after n left
+        → LoopPost a m room bytes (take k ends) answers h n left → after ≡ withHead h row → FoldRowPost row m room bytes ends answers 0 after n left
     fold-found k h n left after f e post put =
         record {
           refused = λ (g : isHead row && fits (headIn row) m ≡ false). absurd (true≢false (sym (fits-row true f) ∙ g));
@@ -193,7 +244,7 @@ module _ (row : List ℕ) (m : Mem) (room : ℕ) (bytes ends answers : List ℕ)
                 head = h;
                 post =
                     subst (λ (l : List ℕ). FoldedPost (headIn row) m room bytes l answers h n left) (fewer-ends k e)
-                    (subst (λ (b : Accumulator). FoldedPost b m room bytes (take k ends) answers h n left) (x .is-head) post);
+                    (subst (λ (b : Accumulator). FoldedPost b m room bytes (take k ends) answers h n left) (x .is-head) (post .folded));
                 row-left = put;
               };
         }

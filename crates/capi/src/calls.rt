@@ -10,8 +10,8 @@ use crate::folding;
 use crate::heads;
 use crate::heads::Head;
 use rollup::accumulator::Accumulator;
-use rollup::adding;
 use rollup::fitting;
+use rollup::knowing;
 use rollup::writing;
 
 // Puts a fresh head into the row; 1 where it has no ten cells.
@@ -26,7 +26,7 @@ pub extern "C" fn filmoed_fresh(head: &mut [u64]) -> u8
     0
 }
 
-// Adds a state: `rollup::adding::add`.
+// Adds a state: what `rollup::adding::add` promises.
 #[no_mangle]
 pub extern "C" fn filmoed_add(
     head: &mut [u64],
@@ -42,7 +42,7 @@ pub extern "C" fn filmoed_add(
     let Head::Is(a) = h else {
         return 1;
     };
-    let r = adding::add(a, registers, sparse, pending, scratch, state);
+    let r = folding::add_one(a, registers, sparse, pending, scratch, state);
     heads::put_head(head, r.head);
     r.answer
 }
@@ -107,6 +107,7 @@ pub extern "C" fn filmoed_fold(
     if !fitting::fits(a, &registers[..], &sparse[..], &pending[..]) {
         return 1;
     }
+    let known = knowing::kept_distinct(a, &sparse[..]);
     let k = smaller(ends.len(), answers.len());
     let r = folding::fold_states(
         a,
@@ -117,6 +118,7 @@ pub extern "C" fn filmoed_fold(
         states,
         &ends[..k],
         answers,
+        known,
     );
     heads::put_head(head, r);
     0

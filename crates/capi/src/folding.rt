@@ -1,11 +1,15 @@
-// Many states, added one after the other: question 1 is asked once, and then each state goes to the form of `add` that need not scan.
+// Many states, added one after the other: question 1 is asked once, and then each state goes to the form of `add` that need not scan. One state is a fold of one: with a
+// single call of `add_knowing` in the library LLVM puts its code into the loop, and the head stays where it is from turn to turn.
 ghost use Prim.Native.Nat.{_-_};
 ghost use mathlib.Core.Path.{_≡_};
 ghost use lib.ListN.{length};
 ghost use Rattle.rollup.specs.Accumulator.{mem};
-ghost use Rattle.capi.specs.Folds.{between, FoldPre, FoldedPost};
+ghost use Rattle.rollup.specs.Adding.{AddPost};
+ghost use Rattle.capi.specs.Folds.{between, FoldPre, LoopPost};
 use rollup::accumulator::Accumulator;
 use rollup::adding;
+use rollup::adding::Added;
+use rollup::fitting;
 use rollup::knowing;
 
 // The bytes from one end to the next, as far as there are any.
@@ -24,7 +28,7 @@ fn between(bytes: &[u8], start: usize, end: usize) -> &[u8]
     &bytes[start..end]
 }
 
-// Adds the states between the ends, and puts each answer into its cell.
+// Adds the states between the ends, and puts each answer into its cell. `known` says that the list is known to be one that a merge can leave.
 pub(crate) fn fold_states(
     a: Accumulator,
     registers: &mut [u8],
@@ -34,12 +38,13 @@ pub(crate) fn fold_states(
     bytes: &[u8],
     ends: &[u64],
     answers: &mut [u8],
+    known: bool,
 ) -> Accumulator
-    requires { ⌜ FoldPre a (mem (now registers) (now sparse) (now pending)) (now ends) (now answers) ⌝ }
-    ensures { λ r. ⌜ FoldedPost a (mem (now (registers .entry)) (now (sparse .entry)) (now (pending .entry))) (length (now (scratch .entry))) (now (bytes .entry)) (now (ends .entry)) (now (answers .entry)) r (mem (now (registers .exit)) (now (sparse .exit)) (now (pending .exit))) (now (answers .exit)) ⌝ }
+    requires { ⌜ FoldPre a (mem (now registers) (now sparse) (now pending)) (now ends) (now answers) known ⌝ }
+    ensures { λ r. ⌜ LoopPost a (mem (now (registers .entry)) (now (sparse .entry)) (now (pending .entry))) (length (now (scratch .entry))) (now (bytes .entry)) (now (ends .entry)) (now (answers .entry)) r (mem (now (registers .exit)) (now (sparse .exit)) (now (pending .exit))) (now (answers .exit)) ⌝ }
 {
     let mut head = a;
-    let mut distinct = knowing::kept_distinct(a, &sparse[..]);
+    let mut distinct = known;
     let mut start: usize = 0;
     let mut i: usize = 0;
     while i < ends.len() {
@@ -60,4 +65,37 @@ pub(crate) fn fold_states(
         i += 1;
     }
     head
+}
+
+// Adds one state: what `rollup::adding::add` promises, by the loop.
+pub(crate) fn add_one(
+    a: Accumulator,
+    registers: &mut [u8],
+    sparse: &mut [u32],
+    pending: &mut [u32],
+    scratch: &mut [u32],
+    state: &[u8],
+) -> Added
+    ensures { λ r. ⌜ AddPost a (mem (now (registers .entry)) (now (sparse .entry)) (now (pending .entry))) (length (now (scratch .entry))) (now (state .entry)) r (mem (now (registers .exit)) (now (sparse .exit)) (now (pending .exit))) ⌝ }
+{
+    if !fitting::fits(a, &registers[..], &sparse[..], &pending[..]) {
+        return Added { answer: 1, head: a };
+    }
+    let ends = [state.len() as u64; 1];
+    let mut answers = [0u8; 1];
+    let head = fold_states(
+        a,
+        registers,
+        sparse,
+        pending,
+        scratch,
+        state,
+        &ends,
+        &mut answers,
+        false,
+    );
+    Added {
+        answer: answers[0],
+        head,
+    }
 }

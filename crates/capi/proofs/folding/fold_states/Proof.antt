@@ -8,14 +8,14 @@ use denote.Ref.{now}
 use Rattle.rollup.specs.Accumulator.{Mem, mem}
 use Rattle.rollup.specs.Adding.{AddPost}
 use Rattle.rollup.specs.SparsePaths.{KnownDistinct}
-use Rattle.rollup.proofs.KnowingLaws.{kept-known, still-known}
+use Rattle.rollup.proofs.KnowingLaws.{still-known}
 use Rattle.capi.proofs.FoldLaws.{Folding, fold-start, fold-turn, fold-end}
 use borrow.Author.Needs.{needs}
 use Rattle.capi.proofs.folding.fold_states.Statement.{statement}
 use Rattle.capi.proofs.folding.fold_states.Tie as tie
 
 abbrev Inv-loop : tie.InvT-loop
-Inv-loop registers₀ sparse₀ pending₀ scratch₀ bytes ends answers₀ head₀ distinct₀ start₀ i₀ registers sparse pending scratch answers head distinct start i =
+Inv-loop registers₀ sparse₀ pending₀ scratch₀ bytes ends answers₀ known head₀ distinct₀ start₀ i₀ registers sparse pending scratch answers head distinct start i =
     Folding head₀ (mem registers₀ sparse₀ pending₀) (length scratch₀) bytes ends answers₀ start i head (mem registers sparse pending) answers
     × (length registers ≡ length registers₀)
     × (length sparse ≡ length sparse₀)
@@ -25,18 +25,17 @@ Inv-loop registers₀ sparse₀ pending₀ scratch₀ bytes ends answers₀ head
     × KnownDistinct distinct (head .precision) (head .«sparse_precision») (take (head .«sparse_len») sparse)
 
 abbrev μ-loop : tie.MeasureT-loop
-μ-loop registers₀ sparse₀ pending₀ scratch₀ bytes ends answers₀ head₀ distinct₀ start₀ i₀ registers sparse pending scratch answers head distinct start i =
+μ-loop registers₀ sparse₀ pending₀ scratch₀ bytes ends answers₀ known head₀ distinct₀ start₀ i₀ registers sparse pending scratch answers head distinct start i =
     length ends - i
 
 -- The memory as the call gets it.
 abbrev m : tie.Start Inv-loop μ-loop → Mem
 m o = mem (now (o .args .registers)) (now (o .args .sparse)) (now (o .args .pending))
 
-kept-distinct-requires : tie.Need-kept-distinct-requires Inv-loop μ-loop
-kept-distinct-requires c κs = search needs
-
 loop-holds : tie.Need-loop-holds Inv-loop μ-loop
-loop-holds c = let o = c .before .before .before .before .before .before .before .before .before in (fold-start (o .args .a) (m o) (length (now (o .args .scratch))) (now (o .args .bytes)) (now (o .args .ends)) (now (o .args .answers)) (o .pre), refl, refl, refl, refl, refl, subst (λ (b : Bool). KnownDistinct b (o .args .a .precision) (o .args .a .«sparse_precision») (take (o .args .a .«sparse_len») (now (o .args .sparse)))) (sym (c .kept-distinct .ensures)) (kept-known (o .args .a .form) (o .args .a) (now (o .args .sparse))))
+loop-holds c =
+    let o = c .before .before .before .before .before .before .before in
+    (fold-start (o .args .a) (m o) (length (now (o .args .scratch))) (now (o .args .bytes)) (now (o .args .ends)) (now (o .args .answers)) (o .args .known) (o .pre), refl, refl, refl, refl, refl, o .pre .distinct)
 
 mul-end : tie.Need-mul-end Inv-loop μ-loop
 mul-end c = search needs
@@ -57,14 +56,14 @@ slice-write-answers : tie.Need-slice-write-answers Inv-loop μ-loop
 slice-write-answers c = search needs
 
 add-i : tie.Need-add-i Inv-loop μ-loop
-add-i c = omega (arith, c .before .before .before .before .before .before .before .before .before .before .before .before .before .before .before .before .before .before .loop-test .taken, c .before .before .before .before .before .before .before .before .before .before .before .before .before .before .before .before .before .before .before .before .before .before .before .before .before .before .before .before .before .good)
+add-i c = omega (arith, c .before .before .before .before .before .before .before .before .before .before .before .before .before .before .before .before .before .before .loop-test .taken, c .before .before .before .before .before .before .before .before .before .before .before .before .before .before .before .before .before .before .before .before .before .before .before .before .before .before .before .good)
 
 loop-less : tie.Need-loop-less Inv-loop μ-loop
 loop-less c = search needs
 
 loop-again : tie.Need-loop-again Inv-loop μ-loop
 loop-again c =
-    let o = c .before .before .before .before .before .before .before .before .before .before .before .before .before .before .before .before .before .before .before .before .before .before .before .before .before .before .before .before .before in
+    let o = c .before .before .before .before .before .before .before .before .before .before .before .before .before .before .before .before .before .before .before .before .before .before .before .before .before .before .before in
     let before = mem (c .before .before .before .before .before .before .before .before .before .before .before .before .before .before .before .before .before .before .before .loop .registers) (c .before .before .before .before .before .before .before .before .before .before .before .before .before .before .before .before .before .before .before .loop .sparse) (c .before .before .before .before .before .before .before .before .before .before .before .before .before .before .before .before .before .before .before .loop .pending) in
     let after = mem (c .before .before .before .before .before .before .before .before .before .before .before .add-knowing .last .1 .0) (c .before .before .before .before .before .before .before .before .before .before .before .add-knowing .last .1 .1 .0) (c .before .before .before .before .before .before .before .before .before .before .before .add-knowing .last .1 .1 .1 .0) in
     let post = subst (λ (k : ℕ). AddPost (c .before .before .before .before .before .before .before .before .before .before .before .before .before .before .before .before .before .before .before .loop .head) before k (now (c .before .before .before .before .before .before .before .before .before .before .before .before .between .result)) (c .before .before .before .before .before .before .before .before .before .before .before .add-knowing .result) after) (c .before .before .before .before .before .before .before .before .before .before .before .before .before .before .before .before .before .before .before .loop .inv .4) (c .before .before .before .before .before .before .before .before .before .before .before .add-knowing .ensures) in
@@ -86,7 +85,7 @@ same-length-5 : tie.Need-same-length-5 Inv-loop μ-loop
 same-length-5 c = search needs
 
 returns : tie.Need-returns Inv-loop μ-loop
-returns c = let o = c .before .before .before .before .before .before .before .before .before .before .before in fold-end (o .args .a) (m o) (length (now (o .args .scratch))) (now (o .args .bytes)) (now (o .args .ends)) (now (o .args .answers)) (c .before .loop .start) (c .before .loop .i) (c .before .loop .head) (mem (c .before .loop .registers) (c .before .loop .sparse) (c .before .loop .pending)) (c .before .loop .answers) (c .before .loop .inv .0) (c .loop-test .left)
+returns c = let o = c .before .before .before .before .before .before .before .before .before in fold-end (o .args .a) (m o) (length (now (o .args .scratch))) (now (o .args .bytes)) (now (o .args .ends)) (now (o .args .answers)) (c .before .loop .start) (c .before .loop .i) (c .before .loop .head) (mem (c .before .loop .registers) (c .before .loop .sparse) (c .before .loop .pending)) (c .before .loop .answers) (c .before .loop .inv .0) (c .loop-test .left)
 
 pub fold-states-spec : {M : Type 1} → statement M
 fold-states-spec =
@@ -94,7 +93,6 @@ fold-states-spec =
     (tie.spec
     Inv-loop
     μ-loop
-    kept-distinct-requires
     loop-holds
     mul-end
     shared-slice-read-end
