@@ -38,23 +38,40 @@ fn timed(f: impl FnOnce()) -> f64 {
     start.elapsed().as_nanos() as f64
 }
 
-fn joined(states: &[Vec<u8>]) -> (Vec<u8>, Vec<u64>) {
-    let mut end = 0;
-    let ends = states
-        .iter()
-        .map(|s| {
-            end += s.len() as u64;
-            end
+/// States one behind the other, and where each ends. Both sides read them there, so that neither finds its input better placed than the other.
+struct Joined {
+    bytes: Vec<u8>,
+    ends: Vec<u64>,
+}
+
+impl Joined {
+    fn new(states: &[Vec<u8>]) -> Joined {
+        let mut end = 0;
+        let ends = states
+            .iter()
+            .map(|s| {
+                end += s.len() as u64;
+                end
+            })
+            .collect();
+        Joined { bytes: states.concat(), ends }
+    }
+
+    fn states(&self) -> impl Iterator<Item = &[u8]> {
+        let mut start = 0;
+        self.ends.iter().map(move |end| {
+            let state = &self.bytes[start..*end as usize];
+            start = *end as usize;
+            state
         })
-        .collect();
-    (states.concat(), ends)
+    }
 }
 
 /// Both sides with the states that come before. The Rust keeps its buffers over `reset`, the Rattle side its lent memory.
 struct Both {
     rust: Accumulator,
     side: Side,
-    before: (Vec<u8>, Vec<u64>),
+    before: Joined,
     answers: Vec<u8>,
 }
 
@@ -63,22 +80,22 @@ impl Both {
         Both {
             rust: Accumulator::new(),
             side: Side::new(10, case.registers, case.cells, case.cells, case.cells),
-            before: joined(&case.before),
+            before: Joined::new(&case.before),
             answers: vec![0; case.before.len().max(case.states.len())],
         }
     }
 
-    fn start_rust(&mut self, case: &Case) {
+    fn start_rust(&mut self) {
         self.rust.reset();
-        for state in &case.before {
+        for state in self.before.states() {
             self.rust.add_bytes(state).expect("a sound state");
         }
     }
 
     fn start_side(&mut self) {
         assert_eq!(self.side.fresh(), 0);
-        assert_eq!(self.side.fold(&self.before.0, &self.before.1, &mut self.answers), 0);
-        assert!(self.answers[..self.before.1.len()].iter().all(|a| *a == 0));
+        assert_eq!(self.side.fold(&self.before.bytes, &self.before.ends, &mut self.answers), 0);
+        assert!(self.answers[..self.before.ends.len()].iter().all(|a| *a == 0));
     }
 
     /// Both wrote the same, so both did the same work.
@@ -92,7 +109,7 @@ impl Both {
 
 fn time(case: &Case) -> Times {
     let mut both = Both::new(case);
-    let (bytes, ends) = joined(&case.states);
+    let joined = Joined::new(&case.states);
     let mut times: [Vec<f64>; 4] = Default::default();
     // The first runs warm up and are not counted.
     for run in 0..RUNS + 5 {
@@ -100,17 +117,17 @@ fn time(case: &Case) -> Times {
             let which = (run + turn) % 4;
             let t = match which {
                 0 => {
-                    both.start_rust(case);
+                    both.start_rust();
                     timed(|| {
-                        for state in &case.states {
+                        for state in joined.states() {
                             black_box(both.rust.add_bytes(black_box(state)).is_ok());
                         }
                     })
                 }
                 1 => {
-                    both.start_rust(case);
+                    both.start_rust();
                     timed(|| {
-                        for state in &case.states {
+                        for state in joined.states() {
                             black_box(both.rust.probe_add(black_box(state)).is_ok());
                         }
                     })
@@ -118,13 +135,13 @@ fn time(case: &Case) -> Times {
                 2 => {
                     both.start_side();
                     timed(|| {
-                        black_box(both.side.fold(black_box(&bytes), &ends, &mut both.answers));
+                        black_box(both.side.fold(black_box(&joined.bytes), &joined.ends, &mut both.answers));
                     })
                 }
                 _ => {
                     both.start_side();
                     timed(|| {
-                        for state in &case.states {
+                        for state in joined.states() {
                             black_box(both.side.add(black_box(state)));
                         }
                     })
@@ -278,10 +295,11 @@ fn memory(cases: &[(Case, f64)]) {
     for (case, _) in cases {
         let t = time(case);
         let mut target = vec![0; case.registers];
+        let joined = Joined::new(&case.states);
         let copies = (0..RUNS + 5)
             .map(|_| {
                 timed(|| {
-                    for state in &case.states {
+                    for state in joined.states() {
                         target.copy_from_slice(&black_box(state)[state.len() - case.registers..]);
                         black_box(&target);
                     }
@@ -308,13 +326,13 @@ fn writing(chance: &mut Chance) {
     ];
     for case in cases {
         let mut both = Both::new(&case);
-        both.start_rust(&case);
+        both.start_rust();
         let mut out = vec![0; 70_000];
         let (mut rust, mut here) = (Vec::new(), Vec::new());
         for run in 0..RUNS + 5 {
             // The values that wait are sorted where they stand, so they are added again before each write.
             both.start_side();
-            both.start_rust(&case);
+            both.start_rust();
             let mut len = [0];
             let write = |both: &mut Both, out: &mut [u8], len: &mut [u64]| timed(|| { black_box(both.side.write(out, len)); });
             let serialize = |both: &Both| timed(|| { black_box(both.rust.serialize()); });
@@ -349,7 +367,7 @@ fn parsing(chance: &mut Chance) {
         ("dense, p = 10", dense_states(chance, (10, 15), 200)),
     ] {
         let states: Vec<Vec<u8>> = states.iter().map(|s| Fields { kind: 113, ..Fields::parse(s).expect("a state") }.encode()).collect();
-        let (bytes, ends) = joined(&states);
+        let joined = Joined::new(&states);
         let mut side = Side::new(10, 1 << 15, 100, 100, 100);
         let mut answers = vec![0; states.len()];
         let none = vec![0; states.len()];
@@ -360,10 +378,10 @@ fn parsing(chance: &mut Chance) {
             });
             assert!(answers.iter().all(|a| *a == 8));
             let h = timed(|| {
-                black_box(side.fold(black_box(&bytes), &ends, &mut answers));
+                black_box(side.fold(black_box(&joined.bytes), &joined.ends, &mut answers));
             });
             let r = timed(|| {
-                for state in &states {
+                for state in joined.states() {
                     black_box(original::reads(black_box(state)));
                 }
             });
