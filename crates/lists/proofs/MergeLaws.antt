@@ -559,18 +559,6 @@ unfolding encodeFrom
 encode-more n v l = refl
 
 -- One value more.
-pub written-snoc : (a : List ℕ) (v : ℕ) → written (a ++ v ∷ []) ≡ written a + length (varintBytes 5 (v - lastOf 0 a))
-unfolding writtenFrom
-written-snoc a v = written-append a (v ∷ []) ∙ (let e : written a + (gap (v - lastOf 0 a) + 0) ≡ written a + gap (v - lastOf 0 a) = omega arith in e)
-
-written-le-from : (n : ℕ) (l : List ℕ) → writtenFrom n l ≤ 5 * length l
-unfolding writtenFrom
-written-le-from n [] = omega arith
-written-le-from n (x ∷ l) = omega (arith, len-le 5 (x - n), written-le-from x l)
-
-pub written-le : (l : List ℕ) → written l ≤ 5 * length l
-unfolding written
-written-le l = written-le-from 0 l
 
 pub length-encode-from : (n : ℕ) (l : List ℕ) → length (encodeFrom n l) ≡ writtenFrom n l
 unfolding encodeFrom writtenFrom
