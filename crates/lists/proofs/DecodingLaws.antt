@@ -138,10 +138,6 @@ or-left : (a b : Bool) → (a || b) ≡ false → a ≡ false
 or-left true b e = e
 or-left false b e = refl
 
-or-right : (a b : Bool) → (a || b) ≡ false → b ≡ false
-or-right true b e = absurd (true≢false e)
-or-right false b e = e
-
 -- What is refused where it is read, by the code's questions.
 module _ (p s last v : ℕ) where
   pub refused-less : v < last → true ≡ refusedHere p s last v

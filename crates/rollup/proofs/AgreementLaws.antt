@@ -16,7 +16,7 @@ use Rattle.wire.proofs.VarintLaws.{side}
 use Rattle.lists.specs.Values.{Pair, rank}
 use Rattle.lists.specs.Lists.{allValid, written, merged}
 use Rattle.lists.specs.Registers.{registersOf, withRegisters, zeros, rankAt, raisedBy, raisedLower, larger, lowered}
-use Rattle.lists.proofs.MergeLaws.{merged-valid}
+use Rattle.lists.proofs.MergeLaws.{valid-append, merged-valid}
 use Rattle.lists.proofs.DecodingLaws.{Accepted, accepted}
 use Rattle.lists.proofs.RankLaws.{rank-append, rank-perm, rank-merged, raised-length, raised-append, raised-larger, raised-lowered, lower-none, lower-larger, larger-length, lowered-length, registers-same, valid-inside, valid-inside-lower, row-raised, row-same}
 use Rattle.lists.proofs.RegisterLaws.{of-with, of-front}
@@ -29,7 +29,7 @@ use Rattle.rollup.specs.Adding.{After, unchanged, listHead, denseHead, c
 use Rattle.rollup.specs.Calls.{valuesIn, listRegisters, registersIn, rollupRegisters}
 use Rattle.rollup.proofs.FitLaws.{FitSparse, FitDense, fit-sparse, fit-dense}
 use Rattle.rollup.proofs.JudgeLaws.{JudgedFacts, judged-facts, none-is}
-use Rattle.rollup.proofs.KeepsLaws.{valid-append, no-data, some-data, either, registers-room}
+use Rattle.rollup.proofs.KeepsLaws.{no-data, some-data, either, registers-room}
 
 -- ---- the registers of a list
 

@@ -2,8 +2,7 @@
 use Prim.Native.Nat.{ℕ, zero, suc, _+_, _-_, _*_, _/_, _^_, _<_, _≤_, min}
 use mathlib.Core.Path.{_≡_, refl, sym, ap, _∙_, subst}
 use mathlib.Core.Bool.{Bool, true, false, cond, _&&_, not}
-use mathlib.Core.Logic.{⊎-elim}
-use mathlib.Core.List.{List, [], _++_, List·Permᴰ, List·Permᴰ·nil, List·Permᴰ·cons, List·Permᴰ·swap, List·Permᴰ·trans, List·Memᴰ, List·Memᴰ·append-cases, List·Memᴰ·not-nil}
+use mathlib.Core.List.{List, [], _++_, List·Permᴰ, List·Permᴰ·nil, List·Permᴰ·cons, List·Permᴰ·swap, List·Permᴰ·trans, List·Memᴰ}
 use native.Mathlib.Nat.{max-le, min-le-left, min-le-right}
 use native.Mathlib.Omega.{arith}
 use lib.Dec.{ltb, leb, eqb}
@@ -17,8 +16,7 @@ use Rattle.lists.specs.Values.{Pair, register}
 use Rattle.lists.specs.Sorting.{ascends}
 use Rattle.lists.specs.Lists.{allValid, written, merged}
 use Rattle.lists.specs.Registers.{registerBytes, registersOf, withRegisters, zeros, raisedBy, raisedLower, larger, lowered, largest}
-use Rattle.lists.proofs.OrderLaws.{mem-perm}
-use Rattle.lists.proofs.MergeLaws.{valid-mem, mem-valid, merged-ascends, merged-valid}
+use Rattle.lists.proofs.MergeLaws.{none-valid, valid-append, valid-perm, merged-ascends, merged-valid}
 use Rattle.lists.proofs.DecodingLaws.{Accepted, accepted}
 use Rattle.lists.proofs.RankLaws.{raised-length, lower-length, larger-length, lowered-length, valid-inside, valid-inside-lower, valid-ranks, largest-zeros, largest-larger, largest-lowered, largest-raised, largest-raised-lower}
 use Rattle.lists.proofs.RegisterLaws.{with-length, of-with, of-front, fewer-bytes}
@@ -35,24 +33,11 @@ use Rattle.rollup.proofs.JudgeLaws.{JudgedFacts, judged-facts}
 
 -- ---- values
 
--- Whether values are valid does not depend on their order.
-pub valid-perm : (p s : ℕ) {a b : List ℕ} → List·Permᴰ a b → allValid p s b ≡ true → allValid p s a ≡ true
-valid-perm p s {a} {b} d ok = mem-valid p s a (λ (v : ℕ) (i : List·Memᴰ v a). valid-mem p s v b ok (mem-perm d i))
-
-pub valid-append : (p s : ℕ) (a b : List ℕ) → allValid p s a ≡ true → allValid p s b ≡ true → allValid p s (a ++ b) ≡ true
-valid-append p s a b x y =
-    mem-valid p s (a ++ b)
-    (λ (v : ℕ) (i : List·Memᴰ v (a ++ b)).
-    ⊎-elim (λ (j : List·Memᴰ v a). valid-mem p s v a x j) (λ (j : List·Memᴰ v b). valid-mem p s v b y j) (List·Memᴰ·append-cases a i))
-
 perm-length : {a b : List ℕ} → List·Permᴰ a b → length a ≡ length b
 perm-length List·Permᴰ·nil = refl
 perm-length (List·Permᴰ·cons e d) = ap suc (perm-length d)
 perm-length (List·Permᴰ·swap e f) = refl
 perm-length (List·Permᴰ·trans d f) = perm-length d ∙ perm-length f
-
-none-valid : (p s : ℕ) → allValid p s [] ≡ true
-none-valid p s = mem-valid p s [] (λ (v : ℕ) (i : List·Memᴰ v []). absurd (List·Memᴰ·not-nil i))
 
 -- As many values as are asked for are there.
 in-list : (k : ℕ) (l : List ℕ) → length (take k l) ≡ k → k ≤ length l

@@ -13,7 +13,7 @@ use Rattle.wire.specs.State.{State}
 use Rattle.wire.proofs.BoolLaws.{both-true}
 use Rattle.lists.specs.declared.values.Sparse.{Sparse as Encoding}
 use Rattle.lists.specs.Values.{NewPost}
-use Rattle.lists.specs.Lists.{merged, written, distinctSlots}
+use Rattle.lists.specs.Lists.{merged, distinctSlots}
 use Rattle.lists.proofs.MergeLaws.{merged-distinct}
 use Rattle.rollup.specs.declared.accumulator.Form.{Form}
 use Rattle.rollup.specs.declared.accumulator.Form.the-variants.{Unstarted, Sparse, Dense}

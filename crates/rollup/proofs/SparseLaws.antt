@@ -2,7 +2,7 @@
 use Prim.Native.Nat.{ℕ, _+_, _-_, _*_, _%_, _^_, _<_, _≤_}
 use mathlib.Core.Path.{_≡_, refl, sym, ap, ap₂, subst, _∙_}
 use mathlib.Core.Bool.{Bool, true, false, cond, _&&_, not, true≢false}
-use mathlib.Core.List.{List, [], _++_, List·Permᴰ, List·Memᴰ, Permᴰ·refl, Permᴰ·append-left, List·Memᴰ·append-cases}
+use mathlib.Core.List.{List, [], _++_, List·Permᴰ, Permᴰ·refl, Permᴰ·append-left}
 use mathlib.Core.Logic.{⊎-elim}
 use native.Mathlib.Omega.{arith}
 use lib.Bits.{bitAnd}
@@ -19,8 +19,8 @@ use Rattle.lists.specs.Values.{Pair, SparseFits, NewPost}
 use Rattle.lists.specs.Sorting.{ascends, sortOf}
 use Rattle.lists.specs.Lists.{allValid, written, merged, distinctSlots, MergePost, InsertPre, InsertPost}
 use Rattle.lists.specs.Registers.{registerBytes, registersOf, withRegisters, zeros, raisedBy, larger}
-use Rattle.lists.proofs.OrderLaws.{ascends-sort, length-sort, perm-sort, mem-perm}
-use Rattle.lists.proofs.MergeLaws.{valid-mem, mem-valid, merged-perm, merged-valid, length-merged, length-encode}
+use Rattle.lists.proofs.OrderLaws.{ascends-sort, length-sort, perm-sort}
+use Rattle.lists.proofs.MergeLaws.{valid-append, valid-sort, merged-perm, merged-valid, length-merged, length-encode}
 use Rattle.lists.specs.Lists.{encodeList}
 use Rattle.lists.proofs.DecodingLaws.{Accepted, accepted, decode-encode}
 use Rattle.lists.proofs.RegisterLaws.{of-with, with-with, with-length, row-registers}
@@ -201,15 +201,6 @@ copied w k r front after e f = ap (λ (n : ℕ). take n after) (let g : w + k �
 -- ---- merges
 
 module _ (p s : ℕ) where
-  valid-append : (a b : List ℕ) → allValid p s a ≡ true → allValid p s b ≡ true → allValid p s (a ++ b) ≡ true
-  valid-append a b f g =
-      mem-valid p s (a ++ b)
-      (λ (v : ℕ) (m : List·Memᴰ v (a ++ b)).
-      ⊎-elim (λ (i : List·Memᴰ v a). valid-mem p s v a f i) (λ (i : List·Memᴰ v b). valid-mem p s v b g i) (List·Memᴰ·append-cases a m))
-
-  pub valid-sort : (l : List ℕ) → allValid p s l ≡ true → allValid p s (sortOf l) ≡ true
-  valid-sort l f = mem-valid p s (sortOf l) (λ (v : ℕ) (m : List·Memᴰ v (sortOf l)). valid-mem p s v l f (mem-perm (perm-sort l) m))
-
   pub merged-sort : (a b : List ℕ) → merged p s a (sortOf b) ≡ merged p s a b
   merged-sort a b = merged-perm p s a (sortOf b) a b (Permᴰ·append-left a (perm-sort b))
 
