@@ -209,6 +209,10 @@ lower-none p s regs (v ∷ l) =
 pub raised-length : (p s : ℕ) (regs l : List ℕ) → length (raisedBy p s regs l) ≡ length regs
 raised-length p s regs l = ap length (raised-with p s regs l) ∙ with-length (register p s) (rank p s) regs l
 
+-- Of no registers yet.
+pub zeros-raised : (p s : ℕ) (l : List ℕ) → length (raisedBy p s (zeros p) l) ≡ 2 ^ p
+zeros-raised p s l = raised-length p s (zeros p) l ∙ length-replicate (2 ^ p) 0
+
 pub lower-length : (p s d : ℕ) (regs l : List ℕ) → length (raisedLower p s d regs l) ≡ length regs
 lower-length p s d regs l = ap length (lower-with p s d regs l) ∙ with-length (lowerIndex p s d) (lowerRank p s d) regs l
 

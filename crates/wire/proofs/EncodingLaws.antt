@@ -263,6 +263,10 @@ hll-is h = record { is = sym (append-assoc (hllNumbers h) (bytesField 5 (h .«da
 pub hll-length : (h : HllState) → length (hllBytes h) ≡ length (hllStart h) + length (bytesField 6 (h .sparseData))
 hll-length h = two-length (hll-is h)
 
+-- All of it that is not data has at most 100 bytes.
+pub hll-le : (h : HllState) → length (hllBytes h) ≤ 100 + (length (bytesOrNone (h .«data»)) + length (bytesOrNone (h .sparseData)))
+hll-le h = omega (arith, hll-length h, hll-start-length h, hll-numbers-le h, field-le 5 (h .«data»), field-le 6 (h .sparseData))
+
 pub encode-length : (st : State)
     → length (encodeOf st) ≡ length (outerNumbers st) + length (lengthPrefix 112 (length (hllBytes (st .hll)))) + length (hllBytes (st .hll))
 unfolding encodeOf bytesField
@@ -282,18 +286,7 @@ encode-ge st =
 
 -- All that is not data has at most 200 bytes.
 pub encode-le : (st : State) → length (encodeOf st) ≤ 200 + (length (bytesOrNone (st .hll .«data»)) + length (bytesOrNone (st .hll .sparseData)))
-encode-le st =
-    omega (
-      arith,
-      encode-length st,
-      outer-numbers-le st,
-      prefix-le 112 (length (hllBytes (st .hll))),
-      hll-length (st .hll),
-      hll-start-length (st .hll),
-      hll-numbers-le (st .hll),
-      field-le 5 (st .hll .«data»),
-      field-le 6 (st .hll .sparseData),
-    )
+encode-le st = omega (arith, encode-length st, outer-numbers-le st, prefix-le 112 (length (hllBytes (st .hll))), hll-le (st .hll))
 
 -- ---- a state, cut before its sparse data
 
