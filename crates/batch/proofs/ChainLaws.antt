@@ -8,7 +8,7 @@ use native.Mathlib.Omega.{arith}
 use lib.Dec.{ltb, leb, eqb}
 use lib.ListN.{length, getD, take, drop, set, length-set, length-append}
 use lib.Seq.{take-suc-set, drop-set-lt, drop-drop, take-all, take-at, length-take-le}
-use borrow.Author.Tests.{leb-true, leb-false, ltb-true, lt-ltb, le-leb, lt-leb, eq-eqb, ne-eqb, eqb-true, eqb-false}
+use borrow.Author.Tests.{leb-true, leb-false, ltb-true, lt-ltb, le-leb, lt-leb, eq-eqb, ne-eqb}
 use Rattle.wire.proofs.BoolLaws.{both-true}
 use Rattle.rollup.specs.declared.accumulator.Accumulator.{Accumulator}
 use Rattle.rollup.specs.declared.adding.Added.{Added}
@@ -130,9 +130,12 @@ chain-few (suc n) b before i = go (eqb i 0) (isRecord b before i) (chain-few n b
     go false false h = omega arith
     go false true h = omega arith
 
+pub chain-is : (b : List ℕ) {t : Bool} → isBatch b ≡ t → chainOf b ≡ cond t (chainFrom (length b) b 0 (wordAt b 0)) (ends 24)
+unfolding chainOf
+chain-is b e = ap (λ (t : Bool). cond t (chainFrom (length b) b 0 (wordAt b 0)) (ends 24)) e
+
 -- So 65,536 cells suffice for the answers, whatever the bytes are.
 pub never-full : (b : List ℕ) (cells : ℕ) → 65536 ≤ cells → endingFor (chainOf b) cells ≡ Full → ⊥
-unfolding chainOf
 never-full b cells h e = go (isBatch b) refl
   where
     whole : Ending → Bool
@@ -154,13 +157,9 @@ never-full b cells h e = go (isBatch b) refl
 
     go : (t : Bool) → isBatch b ≡ t → ⊥
     go true f =
-        let all = chainFrom (length b) b 0 (wordAt b 0) in
-        let same : chainOf b ≡ all = ap (λ (t : Bool). cond t all (ends 24)) f in
-        few (omega (arith, ap (λ (c : Chain). length (c .states)) same, chain-few (length b) b 0 (wordAt b 0), batch-size b f .1))
+        few (omega (arith, ap (λ (c : Chain). length (c .states)) (chain-is b f), chain-few (length b) b 0 (wordAt b 0), batch-size b f .1))
     go false f =
-        let all = chainFrom (length b) b 0 (wordAt b 0) in
-        let same : chainOf b ≡ ends 24 = ap (λ (t : Bool). cond t all (ends 24)) f in
-        few (omega (arith, ap (λ (c : Chain). length (c .states)) same))
+        few (omega (arith, ap (λ (c : Chain). length (c .states)) (chain-is b f)))
 
 -- ---- the calls
 
@@ -172,28 +171,73 @@ added-last [] (m ∷ answers) s n calls e = absurd (let z : ⊥ = omega arith in
 added-last (t ∷ states) [] s n calls e = absurd (let z : ⊥ = omega arith in z)
 added-last (t ∷ states) (m ∷ answers) s n calls e = added-last states answers s n (added t m ∷ calls) (let z : length states ≡ length answers = omega arith in z)
 
--- There is a cell left.
-pub cell-left : (k n cells : ℕ) → k ≤ cells → (k ≡ n → ⊥) → n ≡ cells → k < cells
-cell-left k n cells h f e = go (eqb k cells) refl
-  where
-    go : (t : Bool) → eqb k cells ≡ t → k < cells
-    go true g = absurd (f (eqb-true k cells g ∙ sym e))
-    go false g = omega (arith, h, eqb-false k cells g)
-
 -- ---- the walk
 
-pub record Going (batch : List ℕ) (first : Mem) (room before at k : ℕ) (a : Accumulator) (m : Mem) (old answers : List ℕ) : Type 0 where
+-- Where it is: k states are done, and with what is left they are the chain's.
+pub record Walk (batch : List ℕ) (before at k : ℕ) (done : List (List ℕ)) : Type 0 where
   pub left : ℕ
-  pub done : List (List ℕ)
   pub enough : length batch ≤ before + left
   pub within : before < length batch
-  pub count : length done ≡ k
-  pub few : k ≤ length old
   pub early : k ≤ before
-  pub long : length answers ≡ length old
-  pub untouched : drop k answers ≡ drop k old
   pub states : chainOf batch .states ≡ done ++ chainFrom left batch before at .states
   pub ending : chainOf batch .ending ≡ chainFrom left batch before at .ending
+
+pub walk-start : (batch : List ℕ) (at : ℕ) → isBatch batch ≡ true → at ≡ wordAt batch 0 → Walk batch 0 at 0 []
+walk-start batch at ok e =
+    let whole : chainOf batch ≡ chainFrom (length batch) batch 0 at = chain-is batch ok ∙ ap (λ (i : ℕ). chainFrom (length batch) batch 0 i) (sym e) in
+    record {
+      left = length batch;
+      enough = omega arith;
+      within = omega (arith, batch-size batch ok .0);
+      early = omega arith;
+      states = ap (λ (c : Chain). c .states) whole;
+      ending = ap (λ (c : Chain). c .ending) whole;
+    }
+
+module _ {batch : List ℕ} {before at k : ℕ} {done : List (List ℕ)} (w : Walk batch before at k done) where
+  -- Where the chain ends, the states that are done are all of its states.
+  pub walk-all : (n : ℕ) → chainFrom (w .left) batch before at ≡ ends n → chainOf batch .states ≡ done
+  walk-all n e = w .states ∙ ap (λ (c : Chain). done ++ c .states) e ∙ append-nil done
+
+  pub walk-ending : (n : ℕ) → chainFrom (w .left) batch before at ≡ ends n → chainOf batch .ending ≡ n
+  walk-ending n e = w .ending ∙ ap (λ (c : Chain). c .ending) e
+
+  module _ (index : at ≡ 0 → ⊥) where
+    pub walk-bad : isRecord batch before at ≡ false → chainFrom (w .left) batch before at ≡ ends 25
+    walk-bad e = chain-bad batch before at (w .within) index (w .left) (w .enough) e
+
+    module _ (ok : isRecord batch before at ≡ true) where
+      pub walk-step : Next batch before at (w .within) index (w .left)
+      walk-step = chain-next batch before at (w .within) index (w .left) (w .enough) ok
+
+      pub walk-more : chainOf batch .states ≡ done ++ stateAt batch at ∷ chainFrom (walk-step .fewer) batch at (nextAt batch at) .states
+      walk-more = w .states ∙ ap (λ (c : Chain). done ++ c .states) (walk-step .same)
+
+      pub walk-turn : (next : ℕ) → next ≡ nextAt batch at → Walk batch at next (k + 1) (done ++ stateAt batch at ∷ [])
+      walk-turn next e =
+          let fewer = walk-step .fewer in
+          let i = record-inside batch before at ok in
+          record {
+            left = fewer;
+            enough = omega (arith, w .enough, walk-step .less, i .above);
+            within = omega (arith, i .inside);
+            early = omega (arith, w .early, i .above);
+            states =
+                walk-more
+                ∙ sym (append-assoc done (stateAt batch at ∷ []) (chainFrom fewer batch at (nextAt batch at) .states))
+                ∙ ap (λ (x : ℕ). (done ++ stateAt batch at ∷ []) ++ chainFrom fewer batch at x .states) (sym e);
+            ending = w .ending ∙ ap (λ (c : Chain). c .ending) (walk-step .same) ∙ ap (λ (x : ℕ). chainFrom fewer batch at x .ending) (sym e);
+          }
+
+-- ---- the walk that adds each state
+
+pub record Going (batch : List ℕ) (first : Mem) (room before at k : ℕ) (a : Accumulator) (m : Mem) (old answers : List ℕ) : Type 0 where
+  pub done : List (List ℕ)
+  pub walk : Walk batch before at k done
+  pub count : length done ≡ k
+  pub few : k ≤ length old
+  pub long : length answers ≡ length old
+  pub untouched : drop k answers ≡ drop k old
   pub run : Run room first (addedAll done (take k answers) []) a m
   pub free : Free first m
 
@@ -202,48 +246,34 @@ same-cells m = record { registers = refl; sparse = refl; pending = refl }
 
 pub going-start : (batch : List ℕ) (m : Mem) (room at : ℕ) (a : Accumulator) (old answers : List ℕ) → isBatch batch ≡ true → at ≡ wordAt batch 0
     → a ≡ fresh → answers ≡ old → Going batch m room 0 at 0 a m old answers
-unfolding chainOf addedAll
+unfolding addedAll
 going-start batch m room at a old answers ok e f same =
-    let size = batch-size batch ok in
-    let all = chainFrom (length batch) batch 0 (wordAt batch 0) in
-    let whole : chainOf batch ≡ chainFrom (length batch) batch 0 at =
-    ap (λ (t : Bool). cond t all (ends 24)) ok ∙ ap (λ (i : ℕ). chainFrom (length batch) batch 0 i) (sym e) in
     record {
-      left = length batch;
       done = [];
-      enough = omega arith;
-      within = omega (arith, size .0);
+      walk = walk-start batch at ok e;
       count = refl;
       few = omega arith;
-      early = omega arith;
       long = ap length same;
       untouched = same;
-      states = ap (λ (c : Chain). c .states) whole;
-      ending = ap (λ (c : Chain). c .ending) whole;
       run = subst (λ (h : Accumulator). Run room m [] h m) (sym f) begun;
       free = same-cells m;
     }
 
 module _ (batch : List ℕ) (first : Mem) (room before at k : ℕ) (a : Accumulator) (m : Mem) (old answers : List ℕ)
     (g : Going batch first room before at k a m old answers) where
-  -- The states so far are all of the chain's.
-  all-done : chainFrom (g .left) batch before at .states ≡ [] → chainOf batch .states ≡ g .done
-  all-done e = g .states ∙ ap (λ (l : List (List ℕ)). g .done ++ l) e ∙ append-nil (g .done)
-
-  finished : (n : ℕ) (end : Ending) → chainFrom (g .left) batch before at ≡ ends n → cond (eqb n 0) Whole (Refused n) ≡ end
+  finished : (n : ℕ) (end : Ending) → chainFrom (g .walk .left) batch before at ≡ ends n → cond (eqb n 0) Whole (Refused n) ≡ end
       → RolledPost batch first room (record { head = a; records = k; ending = end }) m old answers
   finished n end e f =
-      let all = all-done (ap (λ (c : Chain). c .states) e) in
+      let all = walk-all (g .walk) n e in
       let some : length (chainOf batch .states) ≤ length old = omega (arith, ap length all, g .count, g .few) in
       let front : statesFor batch (length old) ≡ g .done = take-all (length old) (chainOf batch .states) some ∙ all in
-      let last : chainOf batch .ending ≡ n = g .ending ∙ ap (λ (c : Chain). c .ending) e in
       record {
         records = sym (ap length front ∙ g .count);
         ending =
             sym
             (ap (λ (t : Bool). cond t (cond (eqb (chainOf batch .ending) 0) Whole (Refused (chainOf batch .ending))) Full)
             (le-leb (length (chainOf batch .states)) (length old) some)
-            ∙ ap (λ (x : ℕ). cond (eqb x 0) Whole (Refused x)) last
+            ∙ ap (λ (x : ℕ). cond (eqb x 0) Whole (Refused x)) (walk-ending (g .walk) n e)
             ∙ f);
         run = subst (λ (l : List (List ℕ)). Run room first (addedAll l (take k answers) []) a m) (sym front) (g .run);
         untouched = g .untouched;
@@ -251,30 +281,19 @@ module _ (batch : List ℕ) (first : Mem) (room before at k : ℕ) (a : Accumula
       }
 
   pub stop-whole : at ≡ 0 → RolledPost batch first room (record { head = a; records = k; ending = Whole }) m old answers
-  stop-whole e = finished 0 Whole (chain-end (g .left) batch before at e) refl
+  stop-whole e = finished 0 Whole (chain-end (g .walk .left) batch before at e) refl
 
   module _ (index : at ≡ 0 → ⊥) where
     pub stop-refused : isRecord batch before at ≡ false → RolledPost batch first room (record { head = a; records = k; ending = Refused 25 }) m old answers
-    stop-refused e = finished 25 (Refused 25) (chain-bad batch before at (g .within) index (g .left) (g .enough) e) refl
+    stop-refused e = finished 25 (Refused 25) (walk-bad (g .walk) index e) refl
 
     module _ (ok : isRecord batch before at ≡ true) where
-      step : Next batch before at (g .within) index (g .left)
-      step = chain-next batch before at (g .within) index (g .left) (g .enough) ok
-
-      more : chainOf batch .states ≡ (g .done ++ stateAt batch at ∷ []) ++ chainFrom (step .fewer) batch at (nextAt batch at) .states
-      more =
-          g .states
-          ∙ ap (λ (c : Chain). g .done ++ c .states) (step .same)
-          ∙ sym (append-assoc (g .done) (stateAt batch at ∷ []) (chainFrom (step .fewer) batch at (nextAt batch at) .states))
-
       pub stop-full : k ≡ length old → RolledPost batch first room (record { head = a; records = k; ending = Full }) m old answers
       stop-full e =
-          let whole : chainOf batch .states ≡ g .done ++ stateAt batch at ∷ chainFrom (step .fewer) batch at (nextAt batch at) .states =
-          g .states ∙ ap (λ (c : Chain). g .done ++ c .states) (step .same) in
-          let many : length old < length (chainOf batch .states) =
-          omega (arith, ap length whole, length-append (g .done) (stateAt batch at ∷ chainFrom (step .fewer) batch at (nextAt batch at) .states), g .count) in
-          let front : statesFor batch (length old) ≡ g .done =
-          ap (λ (l : List (List ℕ)). take (length old) l) whole ∙ take-at (g .done) (stateAt batch at ∷ chainFrom (step .fewer) batch at (nextAt batch at) .states) (length old) (g .count ∙ e) in
+          let whole = walk-more (g .walk) index ok in
+          let rest = stateAt batch at ∷ chainFrom (walk-step (g .walk) index ok .fewer) batch at (nextAt batch at) .states in
+          let many : length old < length (chainOf batch .states) = omega (arith, ap length whole, length-append (g .done) rest, g .count) in
+          let front : statesFor batch (length old) ≡ g .done = ap (λ (l : List (List ℕ)). take (length old) l) whole ∙ take-at (g .done) rest (length old) (g .count ∙ e) in
           record {
             records = sym (ap length front ∙ g .count);
             ending =
@@ -296,23 +315,17 @@ module _ (batch : List ℕ) (first : Mem) (room before at k : ℕ) (a : Accumula
           ap (λ (l : List ℕ). addedAll (g .done ++ stateAt batch at ∷ []) l []) put
           ∙ added-last (g .done) (take k answers) (stateAt batch at) (r .answer) [] (g .count ∙ sym (length-take-le k answers (omega (arith, g .long))))
           ∙ ap (λ (l : List ℕ). added l (r .answer) ∷ addedAll (g .done) (take k answers) []) (sym f) in
-          let i = record-inside batch before at ok in
           record {
-            left = step .fewer;
             done = g .done ++ stateAt batch at ∷ [];
-            enough = omega (arith, g .enough, step .less, i .above);
-            within = omega (arith, i .inside);
+            walk = walk-turn (g .walk) index ok next e;
             count = length-append (g .done) (stateAt batch at ∷ []) ∙ ap (λ (x : ℕ). x + 1) (g .count);
             few = omega arith;
-            early = omega (arith, g .early, i .above);
             long = length-set answers k (r .answer) ∙ g .long;
             untouched =
                 drop-set-lt (k + 1) answers k (r .answer) (omega arith)
                 ∙ sym (drop-drop 1 k answers)
                 ∙ ap (λ (l : List ℕ). drop 1 l) (g .untouched)
                 ∙ drop-drop 1 k old;
-            states = more ∙ ap (λ (x : ℕ). (g .done ++ stateAt batch at ∷ []) ++ chainFrom (step .fewer) batch at x .states) (sym e);
-            ending = g .ending ∙ ap (λ (c : Chain). c .ending) (step .same) ∙ ap (λ (x : ℕ). chainFrom (step .fewer) batch at x .ending) (sym e);
             run = subst (λ (c : List Call). Run room first c (r .head) n) (sym calls) (adding s r n (g .run) post);
             free =
                 record {
@@ -325,9 +338,9 @@ module _ (batch : List ℕ) (first : Mem) (room before at k : ℕ) (a : Accumula
 -- Bytes that are no batch: 24, and nothing is added.
 pub no-batch : (batch : List ℕ) (m : Mem) (room : ℕ) (a : Accumulator) (old answers : List ℕ) → isBatch batch ≡ false → a ≡ fresh → answers ≡ old
     → RolledPost batch m room (record { head = a; records = 0; ending = Refused 24 }) m old answers
-unfolding chainOf addedAll
+unfolding addedAll
 no-batch batch m room a old answers e f same =
-    let whole : chainOf batch ≡ ends 24 = ap (λ (t : Bool). cond t (chainFrom (length batch) batch 0 (wordAt batch 0)) (ends 24)) e in
+    let whole = chain-is batch e in
     let none : statesFor batch (length old) ≡ [] = ap (λ (c : Chain). take (length old) (c .states)) whole ∙ take-none (length old) in
     record {
       records = sym (ap length none);

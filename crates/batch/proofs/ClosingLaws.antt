@@ -10,6 +10,7 @@ use Rattle.lists.specs.Values.{Pair}
 use Rattle.lists.specs.Lists.{allValid}
 use Rattle.lists.specs.Registers.{registerBytes, registersOf, withRegisters, zeros, raisedBy, notZero}
 use Rattle.lists.proofs.RegisterLaws.{of-with}
+use Rattle.lists.proofs.RankLaws.{zeros-raised}
 use Rattle.rollup.specs.declared.accumulator.Form.{Form}
 use Rattle.rollup.specs.declared.accumulator.Form.the-variants.{Unstarted, Sparse, Dense}
 use Rattle.rollup.specs.declared.accumulator.Accumulator.{Accumulator}
@@ -17,7 +18,7 @@ use Rattle.rollup.specs.Accumulator.{Mem, fits}
 use Rattle.rollup.specs.Writing.{writeOutcome}
 use Rattle.rollup.specs.Calls.{listRegisters, rollupRegisters}
 use Rattle.rollup.proofs.FitLaws.{fit-sparse}
-use Rattle.rollup.proofs.AgreementLaws.{row-length, list-row, registers-list, registers-dense}
+use Rattle.rollup.proofs.AgreementLaws.{list-row, registers-list, registers-dense}
 use Rattle.batch.specs.declared.closing.Count.{Count}
 use Rattle.batch.specs.declared.closing.Count.the-variants.{Registers, Short}
 use Rattle.batch.specs.declared.closing.Report.{Report}
@@ -32,7 +33,7 @@ module _ (p s : ℕ) (pair : Pair p s) (l bytes : List ℕ) (ok : allValid p s l
       f
       ∙ ap notZero
       (ap (registersOf p) e
-      ∙ of-with p bytes room (raisedBy p s (zeros p) l) (row-length p s l)
+      ∙ of-with p bytes room (raisedBy p s (zeros p) l) (zeros-raised p s l)
       ∙ sym (list-row p s pair l ok))
 
 -- Memory that a list's registers can be set from.

@@ -2,7 +2,7 @@
 use Prim.Native.Nat.{ℕ, suc, _+_, _-_, _*_, _/_, _%_, _^_, _<_, _≤_}
 use mathlib.Core.Path.{_≡_, refl, sym, ap, ap₂, _∙_, subst}
 use mathlib.Core.List.{List, [], _∷_, _++_, append-assoc, append-nil}
-use mathlib.Core.Bool.{Bool, true, cond, _&&_}
+use mathlib.Core.Bool.{Bool, true, _&&_}
 use native.Mathlib.Omega.{arith}
 use lib.Dec.{ltb, leb}
 use lib.ListN.{length, getD, take, drop, set, length-append, length-drop, take-append-drop}
@@ -10,9 +10,9 @@ use lib.Seq.{sets, sets-eq, length-sets, take-at, drop-at, getD-drop, drop-drop}
 use borrow.Author.Tests.{le-leb, lt-ltb}
 use Rattle.wire.specs.Varints.{PutPost}
 use Rattle.wire.proofs.EncodingLaws.{Three, three}
-use Rattle.batch.specs.Chain.{wordAt, nextAt, lengthAt, stateAt, isRecord, ends, onto, chainFrom, isBatch, chainOf}
+use Rattle.batch.specs.Chain.{wordAt, nextAt, lengthAt, stateAt, isRecord, onto, chainFrom, isBatch, chainOf}
 use Rattle.batch.specs.Packing.{wordBytes, recordBytes, indexOf, recordsAt, packed, RecordPost}
-use Rattle.batch.proofs.ChainLaws.{chain-end, chain-next}
+use Rattle.batch.proofs.ChainLaws.{chain-end, chain-next, chain-is}
 
 -- ---- words
 
@@ -103,11 +103,6 @@ module _ (b : List ℕ) (e next : ℕ) (s rest : List ℕ) (at-e : drop e b ≡ 
   state-is : length s < 2 ^ 32 → stateAt b e ≡ s
   state-is h = ap₂ (λ (n : ℕ) (l : List ℕ). take n l) (length-is h) state-there ∙ take-at s rest (length s) refl
 
-  inside-is : e + 8 ≤ length b → e + 8 + length s ≤ length b
-  inside-is h =
-      let f : length (drop (e + 8) b) ≡ length s + length rest = ap (λ (l : List ℕ). length l) state-there ∙ length-append s rest in
-      omega (arith, f, length-drop (e + 8) b)
-
 index-low : (e : ℕ) (states : List (List ℕ)) → indexOf e states ≤ e
 index-low e [] = omega arith
 index-low e (s ∷ states) = omega arith
@@ -145,14 +140,13 @@ walks (s ∷ states) b n before e short low above inside bound at-e =
 
 -- Packing and walking agree: the chain of a batch made of states has these states, in order, and ends with 0.
 pub packed-chain : (states : List (List ℕ)) → length (packed states) ≤ 65536 → chainOf (packed states) ≡ record { states = states; ending = 0 }
-unfolding chainOf packed
+unfolding packed
 packed-chain states short =
     let b = wordBytes (indexOf 4 states) ++ recordsAt 4 states in
     let size : length b ≡ 4 + length (recordsAt 4 states) = length-append (wordBytes (indexOf 4 states)) (recordsAt 4 states) ∙ ap (λ (k : ℕ). k + length (recordsAt 4 states)) (word-length (indexOf 4 states)) in
     let four-up : 4 ≤ length b = omega arith in
     let ok : isBatch b ≡ true = ap (λ (t : Bool). t && leb (length b) 65536) (le-leb 4 (length b) four-up) ∙ le-leb (length b) 65536 short in
-    let all = chainFrom (length b) b 0 (wordAt b 0) in
-    ap (λ (t : Bool). cond t all (ends 24)) ok
+    chain-is b ok
     ∙ ap (λ (i : ℕ). chainFrom (length b) b 0 i) (word-front (indexOf 4 states) (recordsAt 4 states) (omega (arith, index-low 4 states)))
     ∙ walks states b (length b) 0 4 short (omega arith) (omega arith) four-up (omega arith) (drop-at (wordBytes (indexOf 4 states)) (recordsAt 4 states) 4 (word-length (indexOf 4 states)))
 

@@ -4,6 +4,7 @@ ghost use Prim.Native.Nat.{_+_, _%_, _≤_};
 ghost use lib.ListN.{length};
 ghost use Rattle.wire.specs.Varints.{PutPost};
 ghost use Rattle.batch.specs.Packing.{wordBytes, recordBytes, RecordPre, RecordPost};
+use wire::encoding::put_bytes;
 
 fn low_byte(v: usize) -> u8
     ensures { λ r. ⌜ r ≡ v % 256 ⌝ }
@@ -21,18 +22,6 @@ pub fn put_word(out: &mut [u8], at: usize, v: usize) -> usize
     out[at + 2] = low_byte(v / 65536);
     out[at + 3] = low_byte(v / 16777216);
     at + 4
-}
-
-fn put_bytes(out: &mut [u8], at: usize, piece: &[u8]) -> usize
-    requires { ⌜ at + length (now piece) ≤ length (now out) ⌝ }
-    ensures { λ r. ⌜ PutPost (now (out .entry)) at (now (piece .entry)) r (now (out .exit)) ⌝ }
-{
-    let mut i: usize = 0;
-    while i < piece.len() {
-        out[at + i] = piece[i];
-        i += 1;
-    }
-    at + i
 }
 
 // Next index 0, length, state.

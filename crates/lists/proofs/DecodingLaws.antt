@@ -13,7 +13,7 @@ use lib.Seq.{length-take-le, take-suc-set}
 use lib.Pow.{pow-pos}
 use lib.Dec.{ltb, leb, eqb}
 use borrow.Author.Tests.{lt-ltb, le-ltb, le-leb, ltb-true, ltb-false, leb-true}
-use Rattle.wire.proofs.BoolLaws.{both, both-true}
+use Rattle.wire.proofs.BoolLaws.{both, both-true, whichever}
 use Rattle.wire.specs.Reading.{Read, got, refused, andThen}
 use Rattle.wire.specs.Varints.{varintOf, varintBytes, payload}
 use Rattle.wire.proofs.VarintLaws.{side, weighed, varint-none, varint-end, varint-last, varint-more, len-last, len-more, len-pos, there-and-back}
@@ -137,10 +137,6 @@ begun-long {s} {start} {at} {x} {b} g inside e h u =
 or-left : (a b : Bool) → (a || b) ≡ false → a ≡ false
 or-left true b e = e
 or-left false b e = refl
-
-or-right : (a b : Bool) → (a || b) ≡ false → b ≡ false
-or-right true b e = absurd (true≢false e)
-or-right false b e = e
 
 -- What is refused where it is read, by the code's questions.
 module _ (p s last v : ℕ) where
@@ -654,10 +650,6 @@ numbered-then : {A B : Type 0} (r : Read A) (next : A → List ℕ → Read B) �
 numbered-then (got x l) next h f = f x l
 numbered-then (refused n) next h f = h
 
-numbered-if : {A : Type 0} (b : Bool) (x y : Read A) → Numbered x → Numbered y → Numbered (cond b x y)
-numbered-if true x y f g = f
-numbered-if false x y f g = g
-
 gap-numbered : (l : List ℕ) → Numbered (gapOf l)
 unfolding gapOf
 gap-numbered l = go (varintOf 5 l)
@@ -667,7 +659,7 @@ gap-numbered l = go (varintOf 5 l)
     cut false = omega arith
 
     go : (r : Read ℕ) → Numbered (gapAnswer r)
-    go (got v rest) = numbered-if (ltb v (2 ^ 32)) (got v rest) (refused 19) tt (omega arith)
+    go (got v rest) = whichever Numbered (ltb v (2 ^ 32)) (got v rest) (refused 19) tt (omega arith)
     go (refused n) = cut (eqb n 3)
 
 sums-numbered : (p s n : ℕ) (l : List ℕ) (last : ℕ) → Numbered (sumsOf p s n l last)
@@ -680,7 +672,7 @@ sums-numbered p s (suc n) (b ∷ l) last =
     (gap-numbered (b ∷ l))
     (λ (gap : ℕ) (rest : List ℕ).
     let v = (last + gap) % 2 ^ 32 in
-    numbered-if (refusedHere p s last v) (refused 20) (before v (sumsOf p s n rest v)) (omega arith) (more v (sumsOf p s n rest v) (sums-numbered p s n rest v)))
+    whichever Numbered (refusedHere p s last v) (refused 20) (before v (sumsOf p s n rest v)) (omega arith) (more v (sumsOf p s n rest v) (sums-numbered p s n rest v)))
   where
     more : (v : ℕ) (r : Read (List ℕ)) → Numbered r → Numbered (before v r)
     more v (got vs l) h = tt
@@ -691,4 +683,4 @@ unfolding decodeOf
 decode-number p s l n e =
     subst Numbered e
     (numbered-then (sumsOf p s (length l) l 0) (asked p s) (sums-numbered p s (length l) l 0)
-    (λ (vs rest : List ℕ). numbered-if (allValid p s vs) (got vs rest) (refused 20) tt (omega arith)))
+    (λ (vs rest : List ℕ). whichever Numbered (allValid p s vs) (got vs rest) (refused 20) tt (omega arith)))

@@ -2,10 +2,10 @@
 use mathlib.Core.Path.{_≡_, refl, sym, ap, ap₂, _∙_, subst}
 use mathlib.Core.List.{List, [], _∷_, _++_, List·Permᴰ, List·Permᴰ·nil, List·Permᴰ·cons, List·Permᴰ·swap, List·Permᴰ·trans}
 use mathlib.Core.Bool.{Bool, true, false, cond, _||_}
-use mathlib.Core.Logic.{_⊎_, ⊎-elim}
+use mathlib.Core.Logic.{_≢_, _⊎_, ⊎-elim}
 use Prim.Native.Nat.{ℕ, zero, suc, _+_, _-_, _*_, _/_, _^_, _<_, _≤_}
 use native.Mathlib.Omega.{arith}
-use native.Mathlib.Nat.{mul-lt-mul-of-pos-right}
+use native.Mathlib.Nat.{mul-lt-mul-of-pos-right, ne-of-lt, ne-of-gt}
 use lib.Dec.{eqb, leb}
 use lib.ListN.{length, drop, take, getD, drop-of-length-le, length-drop, take-append-drop}
 use lib.Seq.{drop-cons, slice, slice-cons, length-take-le, getD-take, getD-drop}
@@ -40,23 +40,16 @@ module _ (p s : ℕ) where
   above-lower m n (x ∷ l) h q = (omega (arith, q .0), above-lower m n l h (q .1))
 
   -- An index that is below all the others is not among them, and has no part in what is.
-  apart : (v w : ℕ) (t : Bool) → sparseIndex p s v < sparseIndex p s w → (eqb (sparseIndex p s v) (sparseIndex p s w) || t) ≡ t
-  apart v w t h =
-      ap (λ (b : Bool). b || t)
-      (ne-eqb (sparseIndex p s v) (sparseIndex p s w) (λ (e : sparseIndex p s v ≡ sparseIndex p s w). omega arith))
-
-  apart-back : (v w : ℕ) (t : Bool) → sparseIndex p s w < sparseIndex p s v → (eqb (sparseIndex p s v) (sparseIndex p s w) || t) ≡ t
-  apart-back v w t h =
-      ap (λ (b : Bool). b || t)
-      (ne-eqb (sparseIndex p s v) (sparseIndex p s w) (λ (e : sparseIndex p s v ≡ sparseIndex p s w). omega arith))
+  apart : (v w : ℕ) (t : Bool) → sparseIndex p s v ≢ sparseIndex p s w → (eqb (sparseIndex p s v) (sparseIndex p s w) || t) ≡ t
+  apart v w t h = ap (λ (b : Bool). b || t) (ne-eqb (sparseIndex p s v) (sparseIndex p s w) h)
 
   past : (v : ℕ) (a b : List ℕ) → Above (sparseIndex p s v) a → indexIn p s v (a ++ b) ≡ indexIn p s v b
   past v [] b q = refl
-  past v (x ∷ a) b q = apart v x (indexIn p s v (a ++ b)) (q .0) ∙ past v a b (q .1)
+  past v (x ∷ a) b q = apart v x (indexIn p s v (a ++ b)) (ne-of-lt (q .0)) ∙ past v a b (q .1)
 
   absent : (v : ℕ) (l : List ℕ) → Above (sparseIndex p s v) l → indexIn p s v l ≡ false
   absent v [] q = refl
-  absent v (x ∷ l) q = apart v x (indexIn p s v l) (q .0) ∙ absent v l (q .1)
+  absent v (x ∷ l) q = apart v x (indexIn p s v l) (ne-of-lt (q .0)) ∙ absent v l (q .1)
 
   -- ---- counting
 
@@ -109,7 +102,7 @@ module _ (p s : ℕ) where
   unfolding sharedOf
   skip y [] b q = refl
   skip y (v ∷ a) b q =
-      ap₂ (λ (t : Bool) (n : ℕ). cond t 1 0 + n) (apart-back v y (indexIn p s v b) (q .0)) (skip y a b (q .1))
+      ap₂ (λ (t : Bool) (n : ℕ). cond t 1 0 + n) (apart v y (indexIn p s v b) (ne-of-gt (q .0))) (skip y a b (q .1))
 
   module _ (x y : ℕ) (a b : List ℕ) (q : Rises (x ∷ a)) (r : Rises (y ∷ b)) where
     shared-less : sparseIndex p s x < sparseIndex p s y → sharedOf (x ∷ a) (y ∷ b) ≡ sharedOf a (y ∷ b)

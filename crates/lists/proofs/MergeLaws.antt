@@ -277,6 +277,23 @@ mem-valid p s [] f = refl
 mem-valid p s (x ∷ l) f =
     both (f x (List·Memᴰ·head refl)) (mem-valid p s l (λ (v : ℕ) (m : List·Memᴰ v l). f v (List·Memᴰ·tail m)))
 
+pub none-valid : (p s : ℕ) → allValid p s [] ≡ true
+unfolding allValid
+none-valid p s = refl
+
+pub valid-append : (p s : ℕ) (a b : List ℕ) → allValid p s a ≡ true → allValid p s b ≡ true → allValid p s (a ++ b) ≡ true
+valid-append p s a b f g =
+    mem-valid p s (a ++ b)
+    (λ (v : ℕ) (m : List·Memᴰ v (a ++ b)).
+    ⊎-elim (λ (i : List·Memᴰ v a). valid-mem p s v a f i) (λ (i : List·Memᴰ v b). valid-mem p s v b g i) (List·Memᴰ·append-cases a m))
+
+-- Whether values are valid does not depend on their order.
+pub valid-perm : (p s : ℕ) {a b : List ℕ} → List·Permᴰ a b → allValid p s b ≡ true → allValid p s a ≡ true
+valid-perm p s {a} {b} d f = mem-valid p s a (λ (v : ℕ) (m : List·Memᴰ v a). valid-mem p s v b f (mem-perm d m))
+
+pub valid-sort : (p s : ℕ) (l : List ℕ) → allValid p s l ≡ true → allValid p s (sortOf l) ≡ true
+valid-sort p s l f = valid-perm p s (perm-sort l) f
+
 -- ---- the merge
 
 -- Each value is above the one before it, and none is below n.
@@ -340,10 +357,6 @@ module _ (p s : ℕ) (a b : List ℕ) where
   pub merged-perm : (c d : List ℕ) → List·Permᴰ (a ++ b) (c ++ d) → merged p s a b ≡ merged p s c d
   unfolding merged
   merged-perm c d e = ap (lastOfSlots p s) (sort-perm e)
-
-  pub merged-swap : merged p s a b ≡ merged p s b a
-  unfolding merged
-  merged-swap = ap (lastOfSlots p s) (sort-swap a b)
 
   pub length-merged : length (merged p s a b) ≤ length a + length b
   unfolding merged
@@ -471,13 +484,6 @@ unfolding merged
 merged-again p s a b c =
     last-again p s 0 (sortOf (a ++ b)) c (ascending (sortOf (a ++ b)) (ascends-sort (a ++ b)))
     ∙ ap (lastOfSlots p s) (sort-perm (Permᴰ·append-right c (perm-sort (a ++ b))) ∙ ap sortOf (append-assoc a b c))
-
-pub merged-inner : (p s : ℕ) (a b c : List ℕ) → merged p s a (merged p s b c) ≡ merged p s a (b ++ c)
-unfolding merged
-merged-inner p s a b c =
-    merged-swap p s a (merged p s b c)
-    ∙ merged-again p s b c a
-    ∙ ap (lastOfSlots p s) (ap sortOf (sym (append-assoc b c a)) ∙ sort-swap (b ++ c) a)
 
 -- ---- the written length
 

@@ -12,7 +12,7 @@ use lib.Dec.{eqb}
 use lib.Pow.{pow-add, pow-pos, shr-shr, shr-lt}
 use borrow.Author.Tests.{eqb-true, eqb-false, eq-eqb, ne-eqb}
 use Rattle.wire.proofs.VarintLaws.{side}
-use Rattle.lists.proofs.ValueLaws.{decided, register-marked, rank-marked, lowered-register, register-zero, lowered-none, lowered-register-none, lowered-register-twice, lowered-register-mono, lowered-register-le, lowered-mono, lowered-le, register-lt, rank-le}
+use Rattle.lists.proofs.ValueLaws.{decided, register-marked, rank-marked, lowered-register, register-zero, lowered-none, lowered-register-none, lowered-register-twice, lowered-register-mono, lowered-register-le, lowered-le, register-lt, rank-le}
 use Rattle.lists.proofs.MergeLaws.{mark-groups, marked-group, slot-plain, slot-marked, merged-from, merged-has, valid-mem}
 use Rattle.lists.specs.Lists.{slot, merged, allValid}
 use Rattle.lists.specs.Values.{Pair, mark, marked, register, rank, loweredRank, loweredRegister}
@@ -209,6 +209,10 @@ lower-none p s regs (v ∷ l) =
 pub raised-length : (p s : ℕ) (regs l : List ℕ) → length (raisedBy p s regs l) ≡ length regs
 raised-length p s regs l = ap length (raised-with p s regs l) ∙ with-length (register p s) (rank p s) regs l
 
+-- Of no registers yet.
+pub zeros-raised : (p s : ℕ) (l : List ℕ) → length (raisedBy p s (zeros p) l) ≡ 2 ^ p
+zeros-raised p s l = raised-length p s (zeros p) l ∙ length-replicate (2 ^ p) 0
+
 pub lower-length : (p s d : ℕ) (regs l : List ℕ) → length (raisedLower p s d regs l) ≡ length regs
 lower-length p s d regs l = ap length (lower-with p s d regs l) ∙ with-length (lowerIndex p s d) (lowerRank p s d) regs l
 
@@ -252,17 +256,8 @@ rank-append p s j a b =
     ∙ peak-append (register p s) (rank p s) j a b
     ∙ sym (ap₂ max (rank-peak p s j a) (rank-peak p s j b))
 
-pub lower-append : (p s d j : ℕ) (a b : List ℕ) → rankAtLower p s d j (a ++ b) ≡ max (rankAtLower p s d j a) (rankAtLower p s d j b)
-lower-append p s d j a b =
-    lower-peak p s d j (a ++ b)
-    ∙ peak-append (lowerIndex p s d) (lowerRank p s d) j a b
-    ∙ sym (ap₂ max (lower-peak p s d j a) (lower-peak p s d j b))
-
 pub rank-perm : (p s j : ℕ) {a b : List ℕ} → List·Permᴰ a b → rankAt p s j a ≡ rankAt p s j b
 rank-perm p s j {a} {b} q = rank-peak p s j a ∙ peak-perm (register p s) (rank p s) j q ∙ sym (rank-peak p s j b)
-
-pub lower-perm : (p s d j : ℕ) {a b : List ℕ} → List·Permᴰ a b → rankAtLower p s d j a ≡ rankAtLower p s d j b
-lower-perm p s d j {a} {b} q = lower-peak p s d j a ∙ peak-perm (lowerIndex p s d) (lowerRank p s d) j q ∙ sym (lower-peak p s d j b)
 
 -- A listed value's rank is at most that of its index, which one of the values has unless it is 0.
 pub rank-upper : (p s j : ℕ) (l : List ℕ) (v : ℕ) → List·Memᴰ v l → register p s v ≡ j → rank p s v ≤ rankAt p s j l
@@ -291,23 +286,6 @@ rank-covered p s j a b f g = le-antisymm (covered-le p s j a b f) (covered-le p 
 
 pub stands-itself : (p s v : ℕ) (l : List ℕ) → List·Memᴰ v l → Stands p s v l
 stands-itself p s v l m = record { value = v; listed = m; index = refl; larger-rank = le-refl (rank p s v) }
-
--- The same d bits lower.
-covered-lower-le : (p s d j : ℕ) (a b : List ℕ) → ((v : ℕ) → List·Memᴰ v a → Stands p s v b) → rankAtLower p s d j a ≤ rankAtLower p s d j b
-covered-lower-le p s d j a b f =
-    le-trans (le-of-eq (lower-peak p s d j a))
-    (peak-least (lowerIndex p s d) (lowerRank p s d) j a (rankAtLower p s d j b)
-    (λ (v : ℕ) (m : List·Memᴰ v a) (e : lowerIndex p s d v ≡ j).
-    let w = f v m in
-    le-trans (lowered-mono d (register p s v) (rank p s v) (rank p s (w .value)) (w .larger-rank))
-    (le-trans (le-of-eq (ap (λ (n : ℕ). loweredRank d n (rank p s (w .value))) (sym (w .index))))
-    (le-trans
-    (peak-upper (lowerIndex p s d) (lowerRank p s d) j b (w .value) (w .listed) (ap (λ (n : ℕ). n / 2 ^ d) (w .index) ∙ e))
-    (le-of-eq (sym (lower-peak p s d j b)))))))
-
-pub lower-covered : (p s d j : ℕ) (a b : List ℕ) → ((v : ℕ) → List·Memᴰ v a → Stands p s v b) → ((v : ℕ) → List·Memᴰ v b → Stands p s v a)
-    → rankAtLower p s d j a ≡ rankAtLower p s d j b
-lower-covered p s d j a b f g = le-antisymm (covered-lower-le p s d j a b f) (covered-lower-le p s d j b a g)
 
 -- A value that is listed already changes nothing.
 pub rank-repeat : (p s j v : ℕ) (l : List ℕ) → List·Memᴰ v l → rankAt p s j (v ∷ l) ≡ rankAt p s j l
@@ -352,13 +330,6 @@ larger-assoc a b c e f =
 pub larger-same : (a : List ℕ) → larger a a ≡ a
 larger-same a =
     ext-getD 0 (larger a a) a (larger-length a a) (λ (j : ℕ) (h : j < length (larger a a)). larger-at a a refl j ∙ max-same (getD a j 0))
-
-pub larger-zeros : (p : ℕ) (a : List ℕ) → length a ≡ 2 ^ p → larger (zeros p) a ≡ a
-larger-zeros p a e =
-    let f : length (zeros p) ≡ length a = length-replicate (2 ^ p) 0 ∙ sym e in
-    ext-getD 0 (larger (zeros p) a) a (larger-length (zeros p) a ∙ f)
-    (λ (j : ℕ) (h : j < length (larger (zeros p) a)).
-    larger-at (zeros p) a f j ∙ ap (λ (n : ℕ). max n (getD a j 0)) (zeros-at (2 ^ p) j) ∙ zero-max (getD a j 0))
 
 -- The largest is at least each, and one of them.
 pub largest-upper : (a : List ℕ) (j : ℕ) → getD a j 0 ≤ largest a
@@ -561,16 +532,6 @@ registers-same q regs e =
     le-of-eq (lowered-register-none k (getD regs k 0) ∙ ap (λ (n : ℕ). getD regs n 0) (sym (div-one k) ∙ i))))
     (le-trans (le-of-eq (sym (lowered-register-none j (getD regs j 0)))) (lowered-upper 0 j regs j (div-one j))))
 
-pub registers-zeros : (d q n : ℕ) → lowered d q (replicate n 0) ≡ zeros q
-registers-zeros d q n =
-    lowered-is d q (replicate n 0) (zeros q) (length-replicate (2 ^ q) 0)
-    (λ (j : ℕ) (h : j < 2 ^ q).
-    le-antisymm
-    (lowered-least d j (replicate n 0) (getD (zeros q) j 0)
-    (λ (k : ℕ) (e : k / 2 ^ d ≡ j).
-    subst (λ (m : ℕ). m ≤ getD (zeros q) j 0) (sym (ap (loweredRegister d k) (zeros-at n k) ∙ register-zero d k)) zero-le))
-    (subst (λ (m : ℕ). m ≤ loweredAt d 0 (replicate n 0) j) (sym (zeros-at (2 ^ q) j)) zero-le))
-
 module _ (d e q : ℕ) (regs : List ℕ) (j : ℕ) (inside : j < 2 ^ q) where
   inner-at : (k : ℕ) → k / 2 ^ e ≡ j → getD (lowered d (q + e) regs) k 0 ≡ loweredAt d 0 regs k
   inner-at k h =
@@ -736,9 +697,6 @@ stands-merge p s a b v m =
 pub rank-merged : (p s j : ℕ) (a b : List ℕ) → rankAt p s j (merged p s a b) ≡ rankAt p s j (a ++ b)
 rank-merged p s j a b = rank-covered p s j (merged p s a b) (a ++ b) (merge-stands p s a b) (stands-merge p s a b)
 
-pub lower-merged : (p s d j : ℕ) (a b : List ℕ) → rankAtLower p s d j (merged p s a b) ≡ rankAtLower p s d j (a ++ b)
-lower-merged p s d j a b = lower-covered p s d j (merged p s a b) (a ++ b) (merge-stands p s a b) (stands-merge p s a b)
-
 -- ---- valid lists
 
 -- Their registers are of p bits, and their ranks fit.
@@ -762,10 +720,6 @@ module _ (p s : ℕ) (regs : List ℕ) where
       (λ (j : ℕ) (h : j < length (raisedBy p s regs a)).
       raised-at p s j regs a f ∙ ap (max (getD regs j 0)) (e j) ∙ sym (raised-at p s j regs b g))
 
-  pub raised-perm : {a b : List ℕ} → List·Permᴰ a b → ((v : ℕ) → List·Memᴰ v a → register p s v < length regs)
-      → ((v : ℕ) → List·Memᴰ v b → register p s v < length regs) → raisedBy p s regs a ≡ raisedBy p s regs b
-  raised-perm {a} {b} q f g = raised-same a b f g (λ (j : ℕ). rank-perm p s j q)
-
   pub raised-merged : (a b : List ℕ) → ((v : ℕ) → List·Memᴰ v (merged p s a b) → register p s v < length regs)
       → ((v : ℕ) → List·Memᴰ v (a ++ b) → register p s v < length regs) → raisedBy p s regs (merged p s a b) ≡ raisedBy p s regs (a ++ b)
   raised-merged a b f g = raised-same (merged p s a b) (a ++ b) f g (λ (j : ℕ). rank-merged p s j a b)
@@ -774,11 +728,6 @@ pub raised-append : (p s : ℕ) (regs a b : List ℕ) → raisedBy p s regs (a +
 unfolding raisedBy
 raised-append p s regs [] b = refl
 raised-append p s regs (v ∷ a) b = raised-append p s (raise regs (register p s v) (rank p s v)) a b
-
-pub raised-lower-append : (p s d : ℕ) (regs a b : List ℕ) → raisedLower p s d regs (a ++ b) ≡ raisedLower p s d (raisedLower p s d regs a) b
-unfolding raisedLower
-raised-lower-append p s d regs [] b = refl
-raised-lower-append p s d regs (v ∷ a) b = raised-lower-append p s d (raise regs (lowerIndex p s d v) (lowerRank p s d v)) a b
 
 -- ---- the largest register
 

@@ -4,7 +4,7 @@ use mathlib.Core.Path.{_≡_, refl, sym, ap, ap₂, _∙_, subst}
 use mathlib.Core.Bool.{Bool, cond}
 use mathlib.Core.List.{List, [], _∷_, _++_, append-assoc, append-nil}
 use mathlib.Core.Logic.{_⊎_, inl, inr, ⊎-elim}
-use native.Mathlib.Nat.{le-trans, le-of-eq, le-antisymm, max-zero, mod-lt, mul-mod-left, mul-le-mul-right, pow-suc, suc-mul}
+use native.Mathlib.Nat.{add-sub-cancel, le-trans, le-of-eq, le-antisymm, max-zero, mod-lt, mul-mod-left, mul-le-mul-right, pow-suc, suc-mul}
 use native.Mathlib.Numerals.{add-one}
 use native.Mathlib.Omega.{arith}
 use lib.ListN.{length, getD, take, drop, set, replicate, length-set, length-append, length-drop, length-replicate, take-append-drop, drop-of-length-le, List·getD-append}
@@ -36,6 +36,10 @@ module _ (p : ℕ) (bytes : List ℕ) (room : registerBytes p ≤ length bytes) 
     pub with-length : length (withRegisters p regs bytes) ≡ length bytes
     unfolding registerBytes withRegisters
     with-length = omega (arith, length-append regs (drop (2 ^ p) bytes), length-drop (2 ^ p) bytes)
+
+    -- Bytes with other registers hold as many.
+    pub with-room : (after : List ℕ) → after ≡ withRegisters p regs bytes → registerBytes p ≤ length after
+    with-room after e = omega (arith, room, ap length e, with-length)
 
     pub of-with : registersOf p (withRegisters p regs bytes) ≡ regs
     unfolding registersOf withRegisters
@@ -168,7 +172,7 @@ module _ (p : ℕ) (row before after : List ℕ) (i : ℕ) (d : Done p row befor
   done-length = ap length (d .so-far) ∙ with-length p before (d .room) (take i row ++ drop i (registersOf p before)) mixed-length
 
   pub done-room : registerBytes p ≤ length after
-  done-room = subst (λ (n : ℕ). registerBytes p ≤ n) (sym done-length) (d .room)
+  done-room = with-room p before (d .room) (take i row ++ drop i (registersOf p before)) mixed-length after (d .so-far)
 
   pub done-holds : i < 2 ^ p → HoldsFirst (i + 1) after
   done-holds h = record { precision = p; room = done-room; within = omega arith }
@@ -561,16 +565,13 @@ module _ (q d : ℕ) (source target : List ℕ) (pre : DowngradePre q d source t
       done-none q (larger (registersOf q target) (lowered d q (registersOf (q + d) source))) target
       (larger-length (registersOf q target) (lowered d q (registersOf (q + d) source)) ∙ of-length q target (pre .into .room)) (pre .into .room) 0 zero-le refl
 
-  back : q + d - d ≡ q
-  back = omega arith
-
   pub downgrade-block : (t : ℕ) → t < 2 ^ q → BlockPre d t source
   downgrade-block t h =
       record {
         precision = q + d;
         holds = pre .from .holds;
         fewer = omega arith;
-        below = subst (λ (n : ℕ). t < 2 ^ n) (sym back) h;
+        below = subst (λ (n : ℕ). t < 2 ^ n) (sym (add-sub-cancel q d)) h;
         small = let u = largest-upper (registersOf (q + d) source) (t * 2 ^ d) in omega (arith, u, pre .from .small);
       }
 
@@ -583,7 +584,7 @@ module _ (q d : ℕ) (source target : List ℕ) (pre : DowngradePre q d source t
       (of-length q target (pre .into .room) ∙ sym (lowered-length d q (registersOf (q + d) source))) t
       ∙ ap (λ (x : ℕ). max (getD (registersOf q target) t 0) x)
       (lowered-at d q (registersOf (q + d) source) t h
-      ∙ sym (block .value (q + d) (pre .from .holds .room) (omega arith) (subst (λ (n : ℕ). t < 2 ^ n) (sym back) h)))) raised
+      ∙ sym (block .value (q + d) (pre .from .holds .room) (omega arith) (subst (λ (n : ℕ). t < 2 ^ n) (sym (add-sub-cancel q d)) h)))) raised
 
 -- ---- lowering in place
 

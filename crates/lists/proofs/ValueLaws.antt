@@ -1,9 +1,9 @@
 -- Laws of the values of a sparse list: the mark, validity, index, register and rank, and lowering. No other file unfolds their definitions.
 use Prim.Native.Nat.{ℕ, zero, suc, _+_, _*_, _-_, _/_, _%_, _^_, _<_, _≤_}
 use mathlib.Core.Path.{_≡_, refl, sym, ap, ap₂, _∙_, subst}
-use mathlib.Core.Bool.{Bool, true, false, not, _&&_}
+use mathlib.Core.Bool.{Bool, true, false, not, _&&_, true≢false}
 use mathlib.Core.Logic.{_⊎_, inl, inr, ⊎-elim}
-use native.Mathlib.Nat.{add-comm, mod-lt, mod-eq-of-lt, div-eq-of-lt, div-eq-of-lt-le, le-max-left, le-max-right, max-le, mul-le-mul-right, zero-lt-suc}
+use native.Mathlib.Nat.{add-comm, mod-lt, mod-eq-of-lt, div-eq-of-lt, le-max-left, le-max-right, max-le, mul-le-mul-right, zero-lt-suc}
 use native.Mathlib.Omega.{arith}
 use lib.Arith.{digits-lt}
 use lib.Dec.{ltb, leb, eqb}
@@ -20,9 +20,6 @@ use Rattle.lists.specs.Values.{markBit, mark, marked, valid, sparseIndex
 pub decided : (t : Bool) → (t ≡ true) ⊎ (t ≡ false)
 decided true = inl refl
 decided false = inr refl
-
-opposite : (t : Bool) → t ≡ true → t ≡ false → ⊥
-opposite t e f = let z : _≡_ {A = ℕ} 0 1 = cc in omega arith
 
 -- ---- bits
 
@@ -57,9 +54,6 @@ module _ (p s : ℕ) where
   unfolding mark
   mark-index = omega (arith, pow-add 2 p 6, pow-mono (le-max-right s (p + 6)))
 
-  pub mark-least : 64 ≤ mark p s
-  mark-least = omega (arith, mark-index, pow-pos p)
-
   pub mark-64 : mark p s % 64 ≡ 0
   unfolding mark
   mark-64 =
@@ -88,14 +82,8 @@ module _ (p s v : ℕ) where
   unfolding marked
   below-mark h = ne-eqb (v / mark p s % 2) 1 (λ (e : v / mark p s % 2 ≡ 1). omega (arith, div-eq-of-lt h))
 
-  pub from-mark : mark p s ≤ v → v < 2 * mark p s → marked p s v ≡ true
-  unfolding marked
-  from-mark h l =
-      let e : v / mark p s ≡ 1 = div-eq-of-lt-le {k = 1} (mark p s) {m = v} (omega arith) (omega arith) in
-      eq-eqb (v / mark p s % 2) 1 (omega arith)
-
   pub marked-ge : marked p s v ≡ true → mark p s ≤ v
-  marked-ge e = ⊎-elim (λ (h : v < mark p s). absurd (opposite (marked p s v) e (below-mark h))) (λ (h : mark p s ≤ v). h) (side v (mark p s))
+  marked-ge e = ⊎-elim (λ (h : v < mark p s). absurd (true≢false (sym e ∙ below-mark h))) (λ (h : mark p s ≤ v). h) (side v (mark p s))
 
   -- ---- validity
 
@@ -112,9 +100,6 @@ module _ (p s v : ℕ) where
 
   pub valid-plain : marked p s v ≡ false → valid p s v ≡ true → v < 2 ^ s
   valid-plain e t = ltb-true v (2 ^ s) (sym (plain-is e) ∙ t)
-
-  pub valid-plain-lt : marked p s v ≡ false → valid p s v ≡ true → v < mark p s
-  valid-plain-lt e t = omega (arith, valid-plain e t, mark-sparse p s)
 
   pub marked-valid : marked p s v ≡ true → v < mark p s + 64 * 2 ^ p → v % 64 ≤ 65 - s → valid p s v ≡ true
   marked-valid e h l = marked-is e ∙ both (lt-ltb v (mark p s + 64 * 2 ^ p) h) (le-leb (v % 64) (65 - s) l)
@@ -266,10 +251,6 @@ module _ (p s v : ℕ) where
   pub rank-plain-pos : marked p s v ≡ false → 1 ≤ rank p s v
   rank-plain-pos e = subst (λ (r : ℕ). 1 ≤ r) (sym (rank-plain e)) (plain-rank-pos (s - p) v)
 
-  pub rank-pos : p < s → 1 ≤ rank p s v
-  rank-pos h =
-      ⊎-elim (λ (e : marked p s v ≡ true). omega (arith, rank-marked e)) (λ (e : marked p s v ≡ false). rank-plain-pos e) (decided (marked p s v))
-
   module _ (pair : Pair p s) (t : valid p s v ≡ true) where
     marked-rank-le : marked p s v ≡ true → rank p s v ≤ 65 - p
     marked-rank-le e = omega (arith, rank-marked e, valid-low p s v e t, pair .above, pair .top)
@@ -284,12 +265,6 @@ module _ (p s v : ℕ) where
           plain-rank-most (s - p) v (omega (arith, pair .low, pair .top)) (omega (arith, valid-lt p s v pair t)),
           pair .high,
         )) (decided (marked p s v))
-
-    pub rank-le-apart : p < s → rank p s v ≤ 65 - p
-    rank-le-apart h =
-        ⊎-elim marked-rank-le
-        (λ (e : marked p s v ≡ false). omega (arith, rank-plain e, plain-rank-le (s - p) v (omega arith), pair .top))
-        (decided (marked p s v))
 
     pub rank-zero : rank p s v ≡ 0 → (marked p s v ≡ true) × (v % 64 ≡ 0) × (s ≡ p)
     rank-zero z =
@@ -340,17 +315,14 @@ lowered-register-none index (suc r) = lowered-register 0 index (suc r) (zero-lt-
 -- ---- lowering by d bits and then by e
 
 module _ (d e index r : ℕ) where
-  parts : index % 2 ^ (e + d) ≡ index / 2 ^ d % 2 ^ e * 2 ^ d + index % 2 ^ d
-  parts = mod-pow-add index e d
-
   both-zero : index / 2 ^ d % 2 ^ e ≡ 0 → index % 2 ^ d ≡ 0 → loweredRank e (index / 2 ^ d) (loweredRank d index r) ≡ loweredRank (e + d) index r
   both-zero h l =
-      let all : index % 2 ^ (e + d) ≡ 0 = omega (arith, parts, ap (λ (x : ℕ). x * 2 ^ d) h) in
+      let all : index % 2 ^ (e + d) ≡ 0 = omega (arith, mod-pow-add index e d, ap (λ (x : ℕ). x * 2 ^ d) h) in
       omega (arith, lowered-zero e (index / 2 ^ d) (loweredRank d index r) h, lowered-zero d index r l, lowered-zero (e + d) index r all)
 
   low-bits : index / 2 ^ d % 2 ^ e ≡ 0 → 0 < index % 2 ^ d → loweredRank e (index / 2 ^ d) (loweredRank d index r) ≡ loweredRank (e + d) index r
   low-bits h l =
-      let all : index % 2 ^ (e + d) ≡ index % 2 ^ d = omega (arith, parts, ap (λ (x : ℕ). x * 2 ^ d) h) in
+      let all : index % 2 ^ (e + d) ≡ index % 2 ^ d = omega (arith, mod-pow-add index e d, ap (λ (x : ℕ). x * 2 ^ d) h) in
       omega (
         arith,
         lowered-zero e (index / 2 ^ d) (loweredRank d index r) h,
@@ -365,9 +337,9 @@ module _ (d e index r : ℕ) where
       omega (
         arith,
         lowered-bits e (index / 2 ^ d) (loweredRank d index r) h,
-        lowered-bits (e + d) index r (omega (arith, parts, mul-le-mul-right (2 ^ d) h, pow-pos d)),
+        lowered-bits (e + d) index r (omega (arith, mod-pow-add index e d, mul-le-mul-right (2 ^ d) h, pow-pos d)),
         top-digits e d (index / 2 ^ d % 2 ^ e) (index % 2 ^ d) h (mod-lt (index / 2 ^ d) (pow-pos e)) (mod-lt index (pow-pos d)),
-        ap (leadingZeros (e + d)) parts,
+        ap (leadingZeros (e + d)) (mod-pow-add index e d),
       )
 
   pub lowered-twice : loweredRank e (index / 2 ^ d) (loweredRank d index r) ≡ loweredRank (d + e) index r
@@ -407,12 +379,6 @@ lowered-register-mono d index (suc r) r′ h =
 pub lowered-register-le : (d index r : ℕ) → loweredRegister d index r ≤ loweredRank d index r
 lowered-register-le d index zero = omega (arith, register-zero d index)
 lowered-register-le d index (suc r) = omega (arith, lowered-register d index (suc r) (zero-lt-suc r))
-
-pub lowered-bound : (p d index r : ℕ) → p ≤ 24 → d ≤ p - 4 → r ≤ 88 - p → loweredRank d index r ≤ 88 - (p - d)
-lowered-bound p d index r h l b = omega (arith, lowered-le d index r)
-
-pub lowered-register-bound : (p d index r : ℕ) → p ≤ 24 → d ≤ p - 4 → r ≤ 88 - p → loweredRegister d index r ≤ 88 - (p - d)
-lowered-register-bound p d index r h l b = omega (arith, lowered-bound p d index r h l b, lowered-register-le d index r)
 
 -- ---- what the code computes
 

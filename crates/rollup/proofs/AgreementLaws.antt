@@ -9,27 +9,31 @@ use mathlib.Core.List.{List, [], _++_, append-assoc, append-nil, List·Memᴰ}
 use native.Mathlib.Nat.{min-le-right, min-eq-left, le-of-eq}
 use native.Mathlib.Omega.{arith}
 use lib.Dec.{ltb, eqb}
-use lib.ListN.{length, take, replicate, length-replicate}
-use borrow.Author.Tests.{eqb-true}
+use lib.ListN.{length, take, replicate}
+use borrow.Author.Tests.{eqb-true, not-false}
 use Rattle.wire.specs.State.{State}
+use Rattle.wire.proofs.BoolLaws.{either}
 use Rattle.wire.proofs.VarintLaws.{side}
 use Rattle.lists.specs.Values.{Pair, rank}
 use Rattle.lists.specs.Lists.{allValid, written, merged}
 use Rattle.lists.specs.Registers.{registersOf, withRegisters, zeros, rankAt, raisedBy, raisedLower, larger, lowered}
-use Rattle.lists.proofs.MergeLaws.{merged-valid}
+use Rattle.lists.proofs.MergeLaws.{valid-append, merged-valid}
 use Rattle.lists.proofs.DecodingLaws.{Accepted, accepted}
-use Rattle.lists.proofs.RankLaws.{rank-append, rank-perm, rank-merged, raised-length, raised-append, raised-larger, raised-lowered, lower-none, lower-larger, larger-length, lowered-length, registers-same, valid-inside, valid-inside-lower, row-raised, row-same}
+use Rattle.lists.proofs.RankLaws.{rank-append, rank-perm, rank-merged, zeros-raised, raised-append, raised-larger, raised-lowered, lower-none, lower-larger, larger-length, lowered-length, registers-same, valid-inside, valid-inside-lower, row-raised, row-same}
 use Rattle.lists.proofs.RegisterLaws.{of-with, of-front}
 use Rattle.rollup.specs.declared.accumulator.Form.{Form}
 use Rattle.rollup.specs.declared.accumulator.Form.the-variants.{Unstarted, Sparse, Dense}
 use Rattle.rollup.specs.declared.accumulator.Accumulator.{Accumulator}
 use Rattle.rollup.specs.Accumulator.{Mem, keptOf, waitingOf, limit}
 use Rattle.rollup.specs.Header.{dataOf, listOf, isEmpty, maskOf}
-use Rattle.rollup.specs.Adding.{After, unchanged, listHead, denseHead, commonMask, sumCount, startAfter, settle, waits, inserts, listAfter, sparseAfter, signedMin, signedKey, raisedByState, denseAfter, acceptedAfter, isStarted, Ready, Shows}
+use Rattle.rollup.specs.Adding.{After, unchanged, denseHead, commonMask, sumCount, startAfter, settle, waits, listAfter, sparseAfter, signedMin, signedKey, raisedByState, denseAfter, acceptedAfter, isStarted, Ready, Shows}
+use Rattle.rollup.specs.SparsePaths.{asList, asDense, asWaiting}
 use Rattle.rollup.specs.Calls.{valuesIn, listRegisters, registersIn, rollupRegisters}
 use Rattle.rollup.proofs.FitLaws.{FitSparse, FitDense, fit-sparse, fit-dense}
 use Rattle.rollup.proofs.JudgeLaws.{JudgedFacts, judged-facts, none-is}
-use Rattle.rollup.proofs.KeepsLaws.{valid-append, no-data, some-data, either, registers-room}
+use Rattle.rollup.proofs.KeepsLaws.{no-data, some-data, registers-room, vs-valid, both-valid}
+use Rattle.rollup.proofs.SparseLaws.{countedBy, unlisted, fromData}
+use Rattle.rollup.proofs.WaysLaws.{startList, startDense, start-ways, settle-ways, list-ways, sparse-ways}
 
 -- ---- the registers of a list
 
@@ -41,12 +45,6 @@ list-same p s a b e = row-same p s a b e
 pub list-merged : (p s : ℕ) (a b : List ℕ) → listRegisters p s (merged p s a b) ≡ listRegisters p s (a ++ b)
 list-merged p s a b = list-same p s (merged p s a b) (a ++ b) (λ (j : ℕ). rank-merged p s j a b)
 
-abbrev row : ℕ → ℕ → List ℕ → List ℕ
-row p s l = raisedBy p s (zeros p) l
-
-pub row-length : (p s : ℕ) (l : List ℕ) → length (raisedBy p s (zeros p) l) ≡ 2 ^ p
-row-length p s l = raised-length p s (zeros p) l ∙ length-replicate (2 ^ p) 0
-
 -- Of valid values they are what the values make of zeros.
 module _ (p s : ℕ) (pair : Pair p s) where
   pub list-row : (l : List ℕ) → allValid p s l ≡ true → listRegisters p s l ≡ raisedBy p s (zeros p) l
@@ -54,14 +52,14 @@ module _ (p s : ℕ) (pair : Pair p s) where
   list-row l ok = row-raised p s l (valid-inside p s l pair ok)
 
   list-length : (l : List ℕ) → allValid p s l ≡ true → length (listRegisters p s l) ≡ 2 ^ p
-  list-length l ok = ap length (list-row l ok) ∙ row-length p s l
+  list-length l ok = ap length (list-row l ok) ∙ zeros-raised p s l
 
   list-append : (a b : List ℕ) → allValid p s a ≡ true → allValid p s b ≡ true
       → listRegisters p s (a ++ b) ≡ larger (listRegisters p s a) (listRegisters p s b)
   list-append a b f g =
       list-row (a ++ b) (valid-append p s a b f g)
       ∙ raised-append p s (zeros p) a b
-      ∙ raised-larger p s (row p s a) b (row-length p s a) (valid-inside p s b pair g)
+      ∙ raised-larger p s (raisedBy p s (zeros p) a) b (zeros-raised p s a) (valid-inside p s b pair g)
       ∙ sym (ap₂ larger (list-row a f) (list-row b g))
 
 -- Registers of the precision itself are not changed by lowering.
@@ -194,28 +192,13 @@ module _ (a : Accumulator) (m : Mem) (room : ℕ) (st : State) (ready : Ready a 
     -- ---- the first
 
     start-took : a .form ≡ Unstarted → Shows (startAfter m st vs) r n → Took sp ss (maskOf (st .valueType)) (registersIn st) r n
-    unfolding startAfter
     start-took f =
         let mask = maskOf (st .valueType) in
-        let asList : After =
-        record {
-          head = listHead mask (st .valueType) (st .numValues) sp ss (st .hll .sparseSize) (length vs) (length (listOf st)) 0;
-          registers = m .registers;
-          kept = vs;
-          waiting = [];
-        } in
-        let asDense : After =
-        record {
-          head = denseHead mask (st .valueType) (st .numValues) sp ss (st .hll .sparseSize);
-          registers = withRegisters sp (dataOf st) (m .registers);
-          kept = [];
-          waiting = [];
-        } in
-        either (λ (x : After). Shows x r n → Took sp ss mask (registersIn st) r n) (isEmpty (dataOf st)) asList asDense
-        (λ (e : isEmpty (dataOf st) ≡ true) (sh : Shows asList r n).
-        took-list asList r n (registersIn st) sh refl (ap (listRegisters sp ss) (append-nil vs) ∙ sym (in-list e)))
-        (λ (e : isEmpty (dataOf st) ≡ false) (sh : Shows asDense r n).
-        took-dense asDense r n (registersIn st) sh refl
+        start-ways (λ (x : After). Shows x r n → Took sp ss mask (registersIn st) r n) m st vs
+        (λ (e : isEmpty (dataOf st) ≡ true) (sh : Shows (startList m st vs) r n).
+        took-list (startList m st vs) r n (registersIn st) sh refl (ap (listRegisters sp ss) (append-nil vs) ∙ sym (in-list e)))
+        (λ (e : isEmpty (dataOf st) ≡ false) (sh : Shows (startDense m st) r n).
+        took-dense (startDense m st) r n (registersIn st) sh refl
         (of-with sp (m .registers) (registers-room a m room st vs ready Unstarted f) (dataOf st) (facts .size (some-data (dataOf st) e)) ∙ sym (in-data e)))
 
     -- ---- one more, at a list roll-up: precisions are the same, so nothing is lowered
@@ -241,12 +224,10 @@ module _ (a : Accumulator) (m : Mem) (room : ℕ) (st : State) (ready : Ready a 
       fit-s = fit-sparse a m (ready .fit) sparse
 
       own-valid : allValid ap′ as′ own ≡ true
-      own-valid = valid-append ap′ as′ (keptOf a m) (waitingOf a m) (fit-s .kept-valid) (fit-s .waiting-valid)
+      own-valid = both-valid a m room st vs ready sparse
 
       new-valid : allValid ap′ as′ vs ≡ true
-      new-valid =
-          subst (λ (k : ℕ). allValid k as′ vs ≡ true) (facts .same-normal sparse)
-          (subst (λ (k : ℕ). allValid sp k vs ≡ true) (facts .same-sparse sparse) (list-in .all))
+      new-valid = vs-valid a m room st vs ready sparse
 
       -- A list's values come to those that are there.
       with-values : isEmpty (dataOf st) ≡ true → listRegisters ap′ as′ (own ++ vs) ≡ joint
@@ -256,28 +237,15 @@ module _ (a : Accumulator) (m : Mem) (room : ℕ) (st : State) (ready : Ready a 
           (sym (in-list e ∙ ap₂ (λ (p s : ℕ). listRegisters p s vs) (facts .same-normal sparse) (facts .same-sparse sparse)))
 
       settle-took : (l : List ℕ) (bytes : ℕ) → allValid ap′ as′ l ≡ true → listRegisters ap′ as′ l ≡ joint → Shows (settle a m st l bytes) r n → Joined
-      unfolding settle
       settle-took l bytes ok g =
-          let asList : After =
-          record {
-            head = listHead (commonMask a st) (a .«value_type») (sumCount a st) ap′ as′ (length l) (length l) bytes 0;
-            registers = m .registers;
-            kept = l;
-            waiting = [];
-          } in
-          let asDense : After =
-          record {
-            head = denseHead (commonMask a st) (a .«value_type») (sumCount a st) ap′ as′ 0;
-            registers = withRegisters ap′ (row ap′ as′ l) (m .registers);
-            kept = [];
-            waiting = [];
-          } in
-          either (λ (x : After). Shows x r n → Joined) (ltb bytes (limit ap′)) asList asDense
-          (λ (e : ltb bytes (limit ap′) ≡ true) (sh : Shows asList r n).
-          took-list asList r n joint sh refl (ap (listRegisters ap′ as′) (append-nil l) ∙ g))
-          (λ (e : ltb bytes (limit ap′) ≡ false) (sh : Shows asDense r n).
-          took-dense asDense r n joint sh refl
-          (of-with ap′ (m .registers) (registers-room a m room st vs ready Sparse sparse) (row ap′ as′ l) (row-length ap′ as′ l)
+          let asList′ = asList (countedBy a m st) (m .registers) l bytes in
+          let asDense′ = asDense (countedBy a m st) (m .registers) l in
+          settle-ways (λ (x : After). Shows x r n → Joined) m st a l bytes
+          (λ (e : ltb bytes (limit ap′) ≡ true) (sh : Shows asList′ r n).
+          took-list asList′ r n joint sh refl (ap (listRegisters ap′ as′) (append-nil l) ∙ g))
+          (λ (e : ltb bytes (limit ap′) ≡ false) (sh : Shows asDense′ r n).
+          took-dense asDense′ r n joint sh refl
+          (of-with ap′ (m .registers) (registers-room a m room st vs ready Sparse sparse) (raisedBy ap′ as′ (zeros ap′) l) (zeros-raised ap′ as′ l)
           ∙ sym (list-row ap′ as′ (fit-s .pair) l ok)
           ∙ g))
 
@@ -291,79 +259,38 @@ module _ (a : Accumulator) (m : Mem) (room : ℕ) (st : State) (ready : Ready a 
       -- With nothing waiting.
       kept-only : not (eqb (a .«pending_len») 0) ≡ false → keptOf a m ++ vs ≡ own ++ vs
       kept-only e =
-          let z : a .«pending_len» ≡ 0 = eqb-true (a .«pending_len») 0 (settled (eqb (a .«pending_len») 0) e) in
+          let z : a .«pending_len» ≡ 0 = eqb-true (a .«pending_len») 0 (not-false (eqb (a .«pending_len») 0) e) in
           ap (λ (l : List ℕ). l ++ vs) (sym (append-nil (keptOf a m)))
           ∙ ap (λ (k : ℕ). (keptOf a m ++ take k (m .pending)) ++ vs) (sym z)
-        where
-          settled : (b : Bool) → not b ≡ false → b ≡ true
-          settled true f = refl
-          settled false f = sym f
 
       list-took : isEmpty (dataOf st) ≡ true → Shows (listAfter a m st vs) r n → Joined
-      unfolding listAfter
       list-took e =
           let kept = keptOf a m in
           let waiting = waitingOf a m in
-          let P : After → Type 0 = λ (x : After). Shows x r n → Joined in
-          let asWaiting : After =
-          record {
-            head =
-                listHead (commonMask a st) (a .«value_type») (sumCount a st) ap′ as′ (a .«sparse_size») (a .«sparse_len») (a .«sparse_bytes»)
-                (a .«pending_len» + length vs);
-            registers = m .registers;
-            kept = kept;
-            waiting = waiting ++ vs;
-          } in
-          let all = settle a m st (merged ap′ as′ kept (waiting ++ vs)) (written (merged ap′ as′ kept (waiting ++ vs))) in
-          let inserted = settle a m st (merged ap′ as′ kept vs) (a .«sparse_bytes» + written (merged ap′ as′ kept vs) - written kept) in
-          let mergedIn = settle a m st (merged ap′ as′ kept vs) (written (merged ap′ as′ kept vs)) in
+          let waited = asWaiting (countedBy a m st) m vs in
           let one : kept ++ (waiting ++ vs) ≡ own ++ vs = sym (append-assoc kept waiting vs) in
-          either P (waits a (length vs)) asWaiting (cond (not (eqb (a .«pending_len») 0)) all (cond (inserts a m (length vs)) inserted mergedIn))
-          (λ (f : waits a (length vs) ≡ true) (sh : Shows asWaiting r n).
-          took-list asWaiting r n joint sh refl (ap (listRegisters ap′ as′) one ∙ with-values e))
-          (λ (f : waits a (length vs) ≡ false).
-          either P (not (eqb (a .«pending_len») 0)) all (cond (inserts a m (length vs)) inserted mergedIn)
-          (λ (g : not (eqb (a .«pending_len») 0) ≡ true).
-          merge-took (waiting ++ vs) (written (merged ap′ as′ kept (waiting ++ vs))) e
+          list-ways (λ (x : After). Shows x r n → Joined) m st a vs
+          (λ (f : waits a (length vs) ≡ true) (sh : Shows waited r n).
+          took-list waited r n joint sh refl (ap (listRegisters ap′ as′) one ∙ with-values e))
+          (merge-took (waiting ++ vs) (written (merged ap′ as′ kept (waiting ++ vs))) e
           (valid-append ap′ as′ waiting vs (fit-s .waiting-valid) new-valid) one)
           (λ (g : not (eqb (a .«pending_len») 0) ≡ false).
-          either P (inserts a m (length vs)) inserted mergedIn
-          (λ (h : inserts a m (length vs) ≡ true).
           merge-took vs (a .«sparse_bytes» + written (merged ap′ as′ kept vs) - written kept) e new-valid (kept-only g))
-          (λ (h : inserts a m (length vs) ≡ false). merge-took vs (written (merged ap′ as′ kept vs)) e new-valid (kept-only g))))
+          (λ (g : not (eqb (a .«pending_len») 0) ≡ false). merge-took vs (written (merged ap′ as′ kept vs)) e new-valid (kept-only g))
 
       sparse-joined : Shows (sparseAfter a m st vs) r n → Joined
-      unfolding sparseAfter
       sparse-joined =
-          let P : After → Type 0 = λ (x : After). Shows x r n → Joined in
-          let same : After =
-          record {
-            head =
-                listHead (commonMask a st) (a .«value_type») (sumCount a st) ap′ as′ (a .«sparse_size») (a .«sparse_len») (a .«sparse_bytes»)
-                (a .«pending_len»);
-            registers = m .registers;
-            kept = keptOf a m;
-            waiting = waitingOf a m;
-          } in
-          let asDense : After =
-          record {
-            head = denseHead (commonMask a st) (a .«value_type») (sumCount a st) ap′ as′ 0;
-            registers = withRegisters ap′ (larger (row ap′ as′ own) (dataOf st)) (m .registers);
-            kept = [];
-            waiting = [];
-          } in
-          either P (isEmpty (dataOf st)) (cond (isEmpty (listOf st)) same (listAfter a m st vs)) asDense
-          (λ (e : isEmpty (dataOf st) ≡ true).
-          either P (isEmpty (listOf st)) same (listAfter a m st vs)
-          (λ (f : isEmpty (listOf st) ≡ true) (sh : Shows same r n).
+          sparse-ways (λ (x : After). Shows x r n → Joined) m st a vs
+          (λ (e : isEmpty (dataOf st) ≡ true) (f : isEmpty (listOf st) ≡ true) (sh : Shows (unlisted a m st vs) r n).
           let none : vs ≡ [] = none-is vs (let z : length vs ≡ 0 = omega (arith, list-in .fewer, no-data (listOf st) f) in z) in
-          took-list same r n joint sh refl
+          took-list (unlisted a m st vs) r n joint sh refl
           (ap (listRegisters ap′ as′) (sym (append-nil own) ∙ ap (λ (l : List ℕ). own ++ l) (sym none)) ∙ with-values e))
-          (λ (f : isEmpty (listOf st) ≡ false). list-took e))
-          (λ (e : isEmpty (dataOf st) ≡ false) (sh : Shows asDense r n).
-          took-dense asDense r n joint sh refl
-          (of-with ap′ (m .registers) (registers-room a m room st vs ready Sparse sparse) (larger (row ap′ as′ own) (dataOf st))
-          (larger-length (row ap′ as′ own) (dataOf st) ∙ row-length ap′ as′ own)
+          list-took
+          (λ (e : isEmpty (dataOf st) ≡ false) (sh : Shows (fromData a m st vs) r n).
+          let row = raisedBy ap′ as′ (zeros ap′) own in
+          took-dense (fromData a m st vs) r n joint sh refl
+          (of-with ap′ (m .registers) (registers-room a m room st vs ready Sparse sparse) (larger row (dataOf st))
+          (larger-length row (dataOf st) ∙ zeros-raised ap′ as′ own)
           ∙ ap₂ larger (sym (list-row ap′ as′ (fit-s .pair) own own-valid)) (sym (in-data e))))
 
     -- ---- one more, whatever the form
@@ -417,7 +344,7 @@ module _ (a : Accumulator) (m : Mem) (room : ℕ) (st : State) (ready : Ready a 
       by-list e =
           let pair = state-pair e in
           let inside = valid-inside sp ss vs pair (list-in .all) in
-          let rows : registersIn st ≡ row sp ss vs = in-list e ∙ list-row sp ss pair vs (list-in .all) in
+          let rows : registersIn st ≡ raisedBy sp ss (zeros sp) vs = in-list e ∙ list-row sp ss pair vs (list-in .all) in
           ⊎-elim
           (λ (h : least < sp).
           lower-larger sp ss (sp - least) least low vs low-long (valid-inside-lower sp ss (sp - least) least vs split pair (list-in .all))

@@ -18,16 +18,17 @@ use Rattle.lists.specs.Values.{NewPost}
 use Rattle.lists.specs.Lists.{allValid}
 use Rattle.lists.specs.Registers.{registerBytes, registersOf, withRegisters, raisedBy, raisedLower, larger, lowered, largest, loweredInPlace, BothHold, LowerPre, DowngradePre, SetListPre, SetListLowerPre}
 use Rattle.lists.proofs.DecodingLaws.{accepted}
-use Rattle.lists.proofs.RegisterLaws.{of-length, with-of, with-length, row-holds, row-registers, fewer-bytes, of-front, with-front}
+use Rattle.lists.proofs.RegisterLaws.{with-room, of-length, with-of, row-holds, row-registers, fewer-bytes, of-front, with-front}
 use Rattle.lists.proofs.RankLaws.{registers-same, lower-none, lowered-length}
 use Rattle.rollup.specs.declared.accumulator.Form.{Form}
 use Rattle.rollup.specs.declared.accumulator.Accumulator.{Accumulator}
 use Rattle.rollup.specs.Accumulator.{mem}
 use Rattle.rollup.specs.Header.{dataOf, listOf, isEmpty, maskOf}
-use Rattle.rollup.specs.Adding.{After, listHead, denseHead, commonMask, sumCount, startAfter, signedMin, raisedByState, denseAfter, wantedPrecision, Shows}
+use Rattle.rollup.specs.Adding.{After, listHead, denseHead, commonMask, sumCount, signedMin, raisedByState, denseAfter, wantedPrecision, Shows}
 use Rattle.rollup.specs.DensePaths.{LowerOwnPre, ownAt, LowerOwnPost, RaiseByDataPre, RaiseByListPre, RaisePre, StartPre, StartPost, DensePre, DensePost}
 use Rattle.rollup.proofs.FitLaws.{FitDense, fit-dense}
 use Rattle.rollup.proofs.JudgeLaws.{JudgedFacts, judged-facts, Room, room-facts}
+use Rattle.rollup.proofs.WaysLaws.{startDense, start-is}
 
 -- ---- the smaller as signed numbers
 
@@ -308,9 +309,8 @@ module _ (a : Accumulator) (registers : List ℕ) (st : State) (vs : List ℕ) (
   module _ (q : ℕ) (after : List ℕ) (post : LowerOwnPost (a .precision) (st .hll .precision) registers q after) where
     after-room : registerBytes common ≤ length after
     after-room =
-        subst (λ (n : ℕ). registerBytes common ≤ n)
-        (sym (ap length (post .left) ∙ with-length (a .precision) registers (fit .room) (own ++ freed) both-length))
-        (le-trans (fewer-bytes common (a .precision) (min-le-left (a .precision) (st .hll .precision))) (fit .room))
+        le-trans (fewer-bytes common (a .precision) (min-le-left (a .precision) (st .hll .precision)))
+        (with-room (a .precision) registers (fit .room) (own ++ freed) both-length after (post .left))
 
     pub dense-raise : RaisePre q st vs after
     dense-raise =
@@ -392,28 +392,12 @@ module _ (registers sparse : List ℕ) (st : State) (vs : List ℕ) (pre : Start
         → r
         ≡ listHead (maskOf (st .valueType)) (st .valueType) (st .numValues) (st .hll .precision) (st .hll .sparsePrecision) (st .hll .sparseSize) n (length list) 0
         → StartPost registers st vs r registers after
-    unfolding startAfter
     start-list r n list after h count copied there head =
         let e : isEmpty (dataOf st) ≡ true = eq-eqb (length (dataOf st)) 0 (none-there st row same h) in
         let all : n ≡ length vs = count ∙ (let z : 0 + (length vs - 0) ≡ length vs = omega arith in z) in
         record {
           shows = λ (before pending : List ℕ).
-              subst
-              (λ (t : Bool).
-              Shows
-              (cond t
-              (record {
-                head = listHead (maskOf (st .valueType)) (st .valueType) (st .numValues) (st .hll .precision) (st .hll .sparsePrecision) (st .hll .sparseSize) (length vs) (length (listOf st)) 0;
-                registers = registers;
-                kept = vs;
-                waiting = [];
-              })
-              (record {
-                head = denseHead (maskOf (st .valueType)) (st .valueType) (st .numValues) (st .hll .precision) (st .hll .sparsePrecision) (st .hll .sparseSize);
-                registers = withRegisters (st .hll .precision) (dataOf st) registers;
-                kept = [];
-                waiting = [];
-              })) r (mem registers after pending)) (sym e)
+              subst (λ (x : After). Shows x r (mem registers after pending)) (sym (start-is (mem registers before pending) st vs e))
               (record {
                 head =
                     head
@@ -432,30 +416,13 @@ module _ (registers sparse : List ℕ) (st : State) (vs : List ℕ) (pre : Start
         → after ≡ withRegisters (st .hll .precision) (registersOf (st .hll .precision) row) registers
         → r ≡ denseHead (maskOf (st .valueType)) (st .valueType) (st .numValues) (st .hll .precision) (st .hll .sparsePrecision) (st .hll .sparseSize)
         → StartPost registers st vs r after left
-    unfolding startAfter
     start-dense r after left h loaded head =
         let some = some-there st row same h in
         let e : isEmpty (dataOf st) ≡ false = ne-eqb (length (dataOf st)) 0 (λ (z : length (dataOf st) ≡ 0). let y : ⊥ = omega arith in y) in
-        let x : After =
-        record {
-          head = denseHead (maskOf (st .valueType)) (st .valueType) (st .numValues) (st .hll .precision) (st .hll .sparsePrecision) (st .hll .sparseSize);
-          registers = withRegisters (st .hll .precision) (dataOf st) registers;
-          kept = [];
-          waiting = [];
-        } in
         record {
           shows = λ (before pending : List ℕ).
-              subst
-              (λ (t : Bool).
-              Shows
-              (cond t
-              (record {
-                head = listHead (maskOf (st .valueType)) (st .valueType) (st .numValues) (st .hll .precision) (st .hll .sparsePrecision) (st .hll .sparseSize) (length vs) (length (listOf st)) 0;
-                registers = registers;
-                kept = vs;
-                waiting = [];
-              }) x) r (mem after left pending)) (sym e)
-              (dense-shown x r after head
+              subst (λ (x : After). Shows x r (mem after left pending)) (sym (start-is (mem registers before pending) st vs e))
+              (dense-shown (startDense (mem registers before pending) st) r after head
               (loaded
               ∙ ap (λ (l : List ℕ). withRegisters (st .hll .precision) l registers)
               (row-registers (st .hll .precision) row (ap length same ∙ first-facts .size some)

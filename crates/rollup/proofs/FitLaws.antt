@@ -3,12 +3,13 @@ use Prim.Native.Nat.{ℕ, zero, suc, _+_, _-_, _*_, _%_, _^_, _<_, _≤_}
 use mathlib.Core.Path.{_≡_, refl, sym, ap, ap₂, _∙_}
 use mathlib.Core.Bool.{Bool, true, false, _&&_, _||_, not}
 use mathlib.Core.List.{List, []}
+use native.Mathlib.Nat.{pos-of-ne-zero}
 use native.Mathlib.Omega.{arith}
 use lib.Dec.{ltb, leb, eqb}
 use lib.ListN.{length, take}
 use lib.Pow.{pow-mono}
-use borrow.Author.Tests.{leb-true, le-leb, ltb-true, lt-ltb, eqb-true, eq-eqb, ne-eqb, lt-leb}
-use Rattle.wire.proofs.BoolLaws.{both, both-true}
+use borrow.Author.Tests.{leb-true, le-leb, ltb-true, lt-ltb, eqb-true, eqb-false, eq-eqb, ne-eqb, lt-leb, not-true}
+use Rattle.wire.proofs.BoolLaws.{both, both-true, never}
 use Rattle.lists.proofs.RegisterLaws.{count-is}
 use Rattle.lists.specs.declared.values.Sparse.{Sparse as Encoding}
 use Rattle.lists.specs.Values.{Pair, NewPost}
@@ -23,14 +24,11 @@ use Rattle.rollup.specs.Accumulator.{Mem, mem, keptOf, waitingOf, limit,
 
 -- ---- Bools
 
-pub yes : {a : Bool} (b : Bool) → a ≡ true → a && b ≡ b
-yes b e = ap (λ (x : Bool). x && b) e
+pub both-yes : {a : Bool} (b : Bool) → a ≡ true → a && b ≡ b
+both-yes b e = ap (λ (x : Bool). x && b) e
 
-pub nay : {a : Bool} (b : Bool) → a ≡ false → a && b ≡ false
-nay b e = ap (λ (x : Bool). x && b) e
-
-pub never : (b : Bool) → b ≡ true → b ≡ false → ⊥
-never b e f = let z : _≡_ {A = ℕ} 0 1 = cc in omega arith
+pub both-no : {a : Bool} (b : Bool) → a ≡ false → a && b ≡ false
+both-no b e = ap (λ (x : Bool). x && b) e
 
 pub denied : (b : Bool) → (b ≡ true → ⊥) → b ≡ false
 denied true f = absurd (f refl)
@@ -39,7 +37,7 @@ denied false f = refl
 -- Two Bools of which each gives the other are one.
 pub alike : (a b : Bool) → (a ≡ true → b ≡ true) → (b ≡ true → a ≡ true) → a ≡ b
 alike true b f g = sym (f refl)
-alike false b f g = sym (denied b (λ (e : b ≡ true). never false (g e) refl))
+alike false b f g = sym (denied b (λ (e : b ≡ true). never (g e)))
 
 -- ---- what fits, by the form
 
@@ -94,12 +92,11 @@ bounded-back (suc k) x y f =
     ap (λ (t : Bool). t || ltb x y) (ne-eqb (suc k) 0 (λ (z : suc k ≡ 0). let n : ⊥ = omega arith in n))
     ∙ lt-ltb x y (f (let h : 0 < suc k = omega arith in h))
 
-not-zero : (s : ℕ) → not (eqb s 0) ≡ true → 0 < s
-not-zero zero e = absurd (never false e refl)
-not-zero (suc s) e = omega arith
+pub above-zero : (n : ℕ) → not (eqb n 0) ≡ true → 0 < n
+above-zero n e = pos-of-ne-zero (eqb-false n 0 (not-true (eqb n 0) e))
 
-not-zero-back : (s : ℕ) → 0 < s → not (eqb s 0) ≡ true
-not-zero-back s h = ap not (ne-eqb s 0 (λ (e : s ≡ 0). let z : ⊥ = omega arith in z))
+above-zero-back : (s : ℕ) → 0 < s → not (eqb s 0) ≡ true
+above-zero-back s h = ap not (ne-eqb s 0 (λ (e : s ≡ 0). let z : ⊥ = omega arith in z))
 
 -- The parts of the two definitions.
 abbrev countsIn : Accumulator → Mem → Bool
@@ -224,7 +221,7 @@ module _ (a : Accumulator) (m : Mem) where
       record {
         low = range .0;
         high = range .1;
-        sparse = not-zero (a .«sparse_precision») (both-true c₁ c₂ h .1);
+        sparse = above-zero (a .«sparse_precision») (both-true c₁ c₂ h .1);
         none = no-lists a (x .0);
         room = leb-true (registerBytes (a .precision)) (length (m .registers)) (x .1);
         small = leb-true (largest (registersOf (a .precision) (m .registers))) (88 - a .precision) (x .2);
@@ -237,7 +234,7 @@ module _ (a : Accumulator) (m : Mem) where
   pub fit-dense-back : a .form ≡ Dense → FitDense a m → fits a m ≡ true
   fit-dense-back f x =
       fits-form a m Dense f
-      ∙ both (both (both (le-leb _ _ (x .low)) (le-leb _ _ (x .high))) (not-zero-back (a .«sparse_precision») (x .sparse)))
+      ∙ both (both (both (le-leb _ _ (x .low)) (le-leb _ _ (x .high))) (above-zero-back (a .«sparse_precision») (x .sparse)))
       (dense-back x)
 
 -- ---- in the order in which the code asks
@@ -249,12 +246,6 @@ pub limit-code : (p : ℕ) → p ≤ 24 → (3 * ((1 * 2 ^ (p - 2)) % 2 ^ 64) �
 limit-code p h =
     let e : 3 * ((1 * 2 ^ (p - 2)) % 2 ^ 64) ≡ limit p = ap (λ (k : ℕ). 3 * k) (count-is (p - 2) (let l : p - 2 ≤ 24 = omega arith in l) .0) in
     (e, omega (arith, limit-small p h))
-
-pub range-yes : (x y z w : ℕ) → x ≤ y → leb z w ≡ leb x y && leb z w
-range-yes x y z w h = sym (yes (leb z w) (le-leb x y h))
-
-pub range-no : (x y z w : ℕ) → y < x → false ≡ leb x y && leb z w
-range-no x y z w h = sym (nay (leb z w) (lt-leb x y h))
 
 pub range-of : (p : ℕ) → normalRange p ≡ true → (4 ≤ p) × (p ≤ 24)
 range-of p e = pair-of 4 p p 24 e
@@ -320,7 +311,7 @@ module _ (a : Accumulator) (cells waitingCells : ℕ) where
   unfolding countsFit
   counts-yes x =
       sym
-      (yes (waitingFits a)
+      (both-yes (waitingFits a)
       (both (both (both (le-leb _ _ (x .kept-in)) (le-leb _ _ (x .waiting-in))) (le-leb _ _ (x .few))) (le-leb _ _ (x .bytes-high))))
 
 -- What is told of values by an encoding is told of them by its precisions.
@@ -356,7 +347,7 @@ module _ (a : Accumulator) (kept waiting : List ℕ) where
 
   pub lists-yes : Lists → leb (written kept) (a .«sparse_bytes») ≡ listsFit a kept waiting
   unfolding listsFit
-  lists-yes x = sym (yes (leb (written kept) (a .«sparse_bytes»)) (both (both (x .kept-valid) (x .waiting-valid)) (x .order)))
+  lists-yes x = sym (both-yes (leb (written kept) (a .«sparse_bytes»)) (both (both (x .kept-valid) (x .waiting-valid)) (x .order)))
 
 module _ (a : Accumulator) (sparse pending : List ℕ) where
   abbrev asked : Bool
@@ -413,19 +404,19 @@ module _ (a : Accumulator) (sparse pending : List ℕ) where
   asked-ranges e =
       sym
       (sparse-asked
-      ∙ nay (listsFit a (take (a .«sparse_len») sparse) (take (a .«pending_len») pending)) (nay (countsFit a (length sparse) (length pending)) e))
+      ∙ both-no (listsFit a (take (a .«sparse_len») sparse) (take (a .«pending_len») pending)) (both-no (countsFit a (length sparse) (length pending)) e))
 
   pub asked-counts : rangesFit (a .precision) (a .«sparse_precision») ≡ true → countsFit a (length sparse) (length pending) ≡ false
       → false ≡ normalRange (a .precision) && sparseFits a (mem [] sparse pending)
   asked-counts e f =
       sym
       (sparse-asked
-      ∙ nay (listsFit a (take (a .«sparse_len») sparse) (take (a .«pending_len») pending)) (yes (countsFit a (length sparse) (length pending)) e ∙ f))
+      ∙ both-no (listsFit a (take (a .«sparse_len») sparse) (take (a .«pending_len») pending)) (both-yes (countsFit a (length sparse) (length pending)) e ∙ f))
 
   pub asked-lists : rangesFit (a .precision) (a .«sparse_precision») ≡ true → countsFit a (length sparse) (length pending) ≡ true
       → listsFit a (take (a .«sparse_len») sparse) (take (a .«pending_len») pending)
       ≡ normalRange (a .precision) && sparseFits a (mem [] sparse pending)
-  asked-lists e f = sym (sparse-asked ∙ yes (listsFit a (take (a .«sparse_len») sparse) (take (a .«pending_len») pending)) (both e f))
+  asked-lists e f = sym (sparse-asked ∙ both-yes (listsFit a (take (a .«sparse_len») sparse) (take (a .«pending_len») pending)) (both e f))
 
 module _ (a : Accumulator) (bytes : List ℕ) where
   abbrev denseAsked : Bool
@@ -433,24 +424,24 @@ module _ (a : Accumulator) (bytes : List ℕ) where
 
   dense-lists : noLists a ≡ false → denseFits a (mem bytes [] []) ≡ false
   unfolding denseFits
-  dense-lists e = nay (smallIn a (mem bytes [] [])) (nay (roomIn a (mem bytes [] [])) e)
+  dense-lists e = both-no (smallIn a (mem bytes [] [])) (both-no (roomIn a (mem bytes [] [])) e)
 
   dense-registers : noLists a ≡ true → denseFits a (mem bytes [] []) ≡ registersFit (a .precision) bytes
   unfolding denseFits
-  dense-registers e = ap (λ (t : Bool). t && smallIn a (mem bytes [] [])) (yes (roomIn a (mem bytes [] [])) e)
+  dense-registers e = ap (λ (t : Bool). t && smallIn a (mem bytes [] [])) (both-yes (roomIn a (mem bytes [] [])) e)
 
   pub asked-normal : normalRange (a .precision) ≡ false → false ≡ denseAsked
-  asked-normal e = sym (nay (denseFits a (mem bytes [] [])) (nay (not (eqb (a .«sparse_precision») 0)) e))
+  asked-normal e = sym (both-no (denseFits a (mem bytes [] [])) (both-no (not (eqb (a .«sparse_precision») 0)) e))
 
   pub asked-sparse : normalRange (a .precision) ≡ true → a .«sparse_precision» ≡ 0 → false ≡ denseAsked
   asked-sparse e f =
       sym
-      (nay (denseFits a (mem bytes [] []))
-      (yes (not (eqb (a .«sparse_precision») 0)) e ∙ ap not (eq-eqb (a .«sparse_precision») 0 f)))
+      (both-no (denseFits a (mem bytes [] []))
+      (both-yes (not (eqb (a .«sparse_precision») 0)) e ∙ ap not (eq-eqb (a .«sparse_precision») 0 f)))
 
   -- What is both-true where both precisions .0 fit.
   ranged : normalRange (a .precision) ≡ true → (a .«sparse_precision» ≡ 0 → ⊥) → denseAsked ≡ denseFits a (mem bytes [] [])
-  ranged e f = yes (denseFits a (mem bytes [] [])) (both e (ap not (ne-eqb (a .«sparse_precision») 0 f)))
+  ranged e f = both-yes (denseFits a (mem bytes [] [])) (both e (ap not (ne-eqb (a .«sparse_precision») 0 f)))
 
   pub asked-none : normalRange (a .precision) ≡ true → (a .«sparse_precision» ≡ 0 → ⊥) → noLists a ≡ false → false ≡ denseAsked
   asked-none e f g = sym (ranged e f ∙ dense-lists g)
@@ -475,9 +466,9 @@ module _ (a : Accumulator) (m : Mem) where
 -- The code's test for enough register bytes.
 module _ (bytes : List ℕ) (want p : ℕ) (e : want ≡ registerBytes p) where
   pub few-bytes : length bytes < want → false ≡ registersFit p bytes
-  few-bytes h = sym (nay (leb (largest (registersOf p bytes)) (88 - p)) (lt-leb (registerBytes p) (length bytes) (omega arith)))
+  few-bytes h = sym (both-no (leb (largest (registersOf p bytes)) (88 - p)) (lt-leb (registerBytes p) (length bytes) (omega arith)))
 
   pub enough-bytes : (most : ℕ) → most ≡ largest (registersOf p bytes) → want ≤ length bytes → leb most (88 - p) ≡ registersFit p bytes
   enough-bytes most f h =
       ap (λ (n : ℕ). leb n (88 - p)) f
-      ∙ sym (yes (leb (largest (registersOf p bytes)) (88 - p)) (le-leb (registerBytes p) (length bytes) (omega arith)))
+      ∙ sym (both-yes (leb (largest (registersOf p bytes)) (88 - p)) (le-leb (registerBytes p) (length bytes) (omega arith)))

@@ -36,6 +36,7 @@ use Rattle.rollup.specs.Accumulator.{Mem, normalRange, sparseRange, spar
 use Rattle.rollup.specs.Header.{ask, dataOf, listOf, isEmpty, isValueType, maskOf, headerAnswer}
 use Rattle.rollup.specs.Adding.{commonMask, isStarted, masksMeet, hasField, samePair, carried, judgeState, judge, wantedPrecision, wantedRegisters, wantedCells, hasRoom, listedIn}
 use Rattle.rollup.specs.Judging.{kindAsked, needsPair, structureAsked, judgedMeans, JudgedInside, JudgePost, parsedRefusal, RoomPre, ListedPre}
+use Rattle.rollup.proofs.FitLaws.{both-yes, both-no, above-zero}
 
 -- ---- Bools
 
@@ -45,10 +46,6 @@ or-second false b e f = e
 
 not-empty : (l : List ℕ) → 0 < length l → isEmpty l ≡ false
 not-empty l h = ne-eqb (length l) 0 (λ (e : length l ≡ 0). let z : ⊥ = omega arith in z)
-
-above-zero : (n : ℕ) → not (eqb n 0) ≡ true → 0 < n
-above-zero zero e = absurd (let z : _≡_ {A = ℕ} 0 1 = cc in omega arith)
-above-zero (suc n) e = omega arith
 
 -- ---- a question that was passed, of those in a row
 
@@ -245,12 +242,6 @@ pub type-other : (t : ℕ) → (t ≡ 0 → ⊥) → (t ≡ 7 → ⊥) → (t �
 type-other t a b c d = rw (ne-eqb t 0 a, ne-eqb t 7 b, ne-eqb t 8 c, ne-eqb t 11 d)
 
 -- ---- ranges
-
-pub both-no : {a : Bool} (b : Bool) → a ≡ false → false ≡ a && b
-both-no b e = sym (ap (λ (x : Bool). x && b) e)
-
-pub both-yes : {a : Bool} (b : Bool) → a ≡ true → b ≡ a && b
-both-yes b e = sym (ap (λ (x : Bool). x && b) e)
 
 pub either-yes : {a : Bool} (b : Bool) → a ≡ true → true ≡ a || b
 either-yes b e = sym (ap (λ (x : Bool). x || b) e)
@@ -515,11 +506,11 @@ module _ (a : Accumulator) (st : State) where
     pair-is = ap (λ (x : Form). samePair x a st) e
 
     pub pair-other : (a .precision ≡ st .hll .precision → ⊥) → false ≡ samePair (a .form) a st
-    pair-other h = both-no _ (ne-eqb _ _ h) ∙ sym pair-is
+    pair-other h = sym (pair-is ∙ both-no _ (ne-eqb _ _ h))
 
     pub pair-same : a .precision ≡ st .hll .precision
         → eqb (a .«sparse_precision») (st .hll .sparsePrecision) ≡ samePair (a .form) a st
-    pair-same h = both-yes _ (eq-eqb _ _ h) ∙ sym pair-is
+    pair-same h = sym (pair-is ∙ both-yes _ (eq-eqb _ _ h))
 
 pub has-field : (present : Bool) (d : List ℕ) → hasField (whenPresent present d) ≡ present
 has-field true d = refl
@@ -623,13 +614,14 @@ module _ (a : Accumulator) (s : List ℕ) where
           inside = q .1;
         }
 
--- What an answer that is a state tells: 7 to 16 of it, and that its list is not long.
-judged-same : (a : Accumulator) (st other : State) → judgeState a st ≡ got other [] → st ≡ other
+-- What an answer that is a state tells: it is the state that was judged, and nothing is left.
+pub judged-same : (a : Accumulator) (st other : State) (rest : List ℕ) → judgeState a st ≡ got other rest → (st ≡ other) × (judgeState a st ≡ got st [])
 unfolding judgeState
-judged-same a st other e = pick (eqb (headerAnswer st) 0) (masksMeet a st) (carried a st) e
+judged-same a st other rest = pick (eqb (headerAnswer st) 0) (masksMeet a st) (carried a st)
   where
-    pick : (h m c : Bool) → cond h (cond m (cond c (got st []) (refused 16)) (refused 15)) (refused (headerAnswer st)) ≡ got other [] → st ≡ other
-    pick true true true e = cc
+    pick : (h m c : Bool) → cond h (cond m (cond c (got st []) (refused 16)) (refused 15)) (refused (headerAnswer st)) ≡ got other rest
+        → (st ≡ other) × (cond h (cond m (cond c (got st []) (refused 16)) (refused 15)) (refused (headerAnswer st)) ≡ got st [])
+    pick true true true e = (cc, refl)
     pick true true false e = absurd (let z : _≡_ {A = ℕ} 0 1 = cc in omega arith)
     pick true false c e = absurd (let z : _≡_ {A = ℕ} 0 1 = cc in omega arith)
     pick false m c e = absurd (let z : _≡_ {A = ℕ} 0 1 = cc in omega arith)
@@ -653,7 +645,7 @@ module _ (a : Accumulator) (s : List ℕ) (f : Fields) (post : JudgePost a s (Ju
   judged-state = pick (readState s) (judge-asked .1)
     where
       pick : (r : Read State) → andThen r (λ st nothing. judgeState a st) ≡ got (stateOf s f) [] → judgeState a (stateOf s f) ≡ got (stateOf s f) []
-      pick (got st l) e = ap (judgeState a) (sym (judged-same a st (stateOf s f) e)) ∙ e
+      pick (got st l) e = ap (judgeState a) (sym (judged-same a st (stateOf s f) [] e .0)) ∙ e
       pick (refused n) e = absurd (let z : _≡_ {A = ℕ} 0 1 = cc in omega arith)
 
   pub judged-short : length (listOf (stateOf s f)) ≤ 2147483647

@@ -1,58 +1,44 @@
 -- Every path, every refusal and every write leaves what fits, where what it began with fits: after it question 1 is answered with yes again.
-use Prim.Native.Nat.{ℕ, zero, suc, _+_, _-_, _*_, _/_, _^_, _<_, _≤_, min}
+use Prim.Native.Nat.{ℕ, suc, _+_, _-_, _*_, _/_, _^_, _<_, _≤_, min}
 use mathlib.Core.Path.{_≡_, refl, sym, ap, _∙_, subst}
-use mathlib.Core.Bool.{Bool, true, false, cond, _&&_, not}
-use mathlib.Core.Logic.{⊎-elim}
-use mathlib.Core.List.{List, [], _++_, List·Permᴰ, List·Permᴰ·nil, List·Permᴰ·cons, List·Permᴰ·swap, List·Permᴰ·trans, List·Memᴰ, List·Memᴰ·append-cases, List·Memᴰ·not-nil}
-use native.Mathlib.Nat.{max-le, min-le-left, min-le-right}
+use mathlib.Core.Bool.{true, false, _&&_, not}
+use mathlib.Core.List.{List, [], _++_, List·Permᴰ, List·Permᴰ·nil, List·Permᴰ·cons, List·Permᴰ·swap, List·Permᴰ·trans, List·Memᴰ}
+use native.Mathlib.Nat.{max-le, min-le-left, min-le-right, pos-of-ne-zero}
 use native.Mathlib.Omega.{arith}
 use lib.Dec.{ltb, leb, eqb}
 use lib.ListN.{length, take, replicate, length-take, length-append, length-replicate}
 use lib.Seq.{length-take-le}
 use lib.Pow.{pow-mono}
 use borrow.Author.Tests.{leb-true, ltb-true, eqb-true, eqb-false}
-use Rattle.wire.proofs.BoolLaws.{both-true}
+use Rattle.wire.proofs.BoolLaws.{both-true, either}
 use Rattle.wire.specs.State.{State}
 use Rattle.lists.specs.Values.{Pair, register}
 use Rattle.lists.specs.Sorting.{ascends}
 use Rattle.lists.specs.Lists.{allValid, written, merged}
 use Rattle.lists.specs.Registers.{registerBytes, registersOf, withRegisters, zeros, raisedBy, raisedLower, larger, lowered, largest}
-use Rattle.lists.proofs.OrderLaws.{mem-perm}
-use Rattle.lists.proofs.MergeLaws.{valid-mem, mem-valid, merged-ascends, merged-valid}
+use Rattle.lists.proofs.MergeLaws.{none-valid, valid-append, valid-perm, merged-ascends, merged-valid}
 use Rattle.lists.proofs.DecodingLaws.{Accepted, accepted}
-use Rattle.lists.proofs.RankLaws.{raised-length, lower-length, larger-length, lowered-length, valid-inside, valid-inside-lower, valid-ranks, largest-zeros, largest-larger, largest-lowered, largest-raised, largest-raised-lower}
-use Rattle.lists.proofs.RegisterLaws.{with-length, of-with, of-front, fewer-bytes}
+use Rattle.lists.proofs.RankLaws.{zeros-raised, lower-length, larger-length, lowered-length, valid-inside, valid-inside-lower, valid-ranks, largest-zeros, largest-larger, largest-lowered, largest-raised, largest-raised-lower}
+use Rattle.lists.proofs.RegisterLaws.{with-length, with-room, of-with, of-front, fewer-bytes}
 use Rattle.rollup.specs.declared.accumulator.Form.{Form}
 use Rattle.rollup.specs.declared.accumulator.Form.the-variants.{Unstarted, Sparse, Dense}
 use Rattle.rollup.specs.declared.accumulator.Accumulator.{Accumulator}
 use Rattle.rollup.specs.Accumulator.{Mem, keptOf, waitingOf, limit, fits}
 use Rattle.rollup.specs.Header.{dataOf, listOf, isEmpty, maskOf}
-use Rattle.rollup.specs.Adding.{After, refuse, listHead, denseHead, commonMask, sumCount, startAfter, settle, waits, inserts, listAfter, sparseAfter, signedMin, signedKey, raisedByState, denseAfter, acceptedAfter, wantedPrecision, wantedCells, hasRoom, Ready, Shows}
+use Rattle.rollup.specs.Adding.{After, refuse, listHead, denseHead, commonMask, sumCount, startAfter, settle, waits, listAfter, sparseAfter, signedMin, signedKey, raisedByState, denseAfter, acceptedAfter, wantedPrecision, wantedCells, hasRoom, Ready, Shows}
 use Rattle.rollup.specs.declared.writing.Written.{Written}
 use Rattle.rollup.specs.Writing.{WritePost}
 use Rattle.rollup.proofs.FitLaws.{limit-small, FitSparse, FitDense, fit-none, fit-none-back, fit-sparse, fit-sparse-back, fit-dense, fit-dense-back}
 use Rattle.rollup.proofs.JudgeLaws.{JudgedFacts, judged-facts}
+use Rattle.rollup.proofs.WaysLaws.{start-ways, settle-ways, list-ways, sparse-ways}
 
 -- ---- values
-
--- Whether values are valid does not depend on their order.
-pub valid-perm : (p s : ℕ) {a b : List ℕ} → List·Permᴰ a b → allValid p s b ≡ true → allValid p s a ≡ true
-valid-perm p s {a} {b} d ok = mem-valid p s a (λ (v : ℕ) (i : List·Memᴰ v a). valid-mem p s v b ok (mem-perm d i))
-
-pub valid-append : (p s : ℕ) (a b : List ℕ) → allValid p s a ≡ true → allValid p s b ≡ true → allValid p s (a ++ b) ≡ true
-valid-append p s a b x y =
-    mem-valid p s (a ++ b)
-    (λ (v : ℕ) (i : List·Memᴰ v (a ++ b)).
-    ⊎-elim (λ (j : List·Memᴰ v a). valid-mem p s v a x j) (λ (j : List·Memᴰ v b). valid-mem p s v b y j) (List·Memᴰ·append-cases a i))
 
 perm-length : {a b : List ℕ} → List·Permᴰ a b → length a ≡ length b
 perm-length List·Permᴰ·nil = refl
 perm-length (List·Permᴰ·cons e d) = ap suc (perm-length d)
 perm-length (List·Permᴰ·swap e f) = refl
 perm-length (List·Permᴰ·trans d f) = perm-length d ∙ perm-length f
-
-none-valid : (p s : ℕ) → allValid p s [] ≡ true
-none-valid p s = mem-valid p s [] (λ (v : ℕ) (i : List·Memᴰ v []). absurd (List·Memᴰ·not-nil i))
 
 -- As many values as are asked for are there.
 in-list : (k : ℕ) (l : List ℕ) → length (take k l) ≡ k → k ≤ length l
@@ -137,14 +123,11 @@ module _ (mask valueType count p s size : ℕ) (row bytes : List ℕ) (low : 4 �
       → fits r n ≡ true
   row-fits =
       dense-fits mask valueType count p s size (withRegisters p row bytes) low high pos
-      (subst (λ (k : ℕ). registerBytes p ≤ k) (sym (with-length p bytes room row long)) room)
+      (with-room p bytes room row long (withRegisters p row bytes) refl)
       (subst (λ (l : List ℕ). largest l ≤ 88 - p) (sym (of-with p bytes room row long)) small)
 
 -- The values of a list as registers.
 module _ (p s : ℕ) (l : List ℕ) (pair : Pair p s) (ok : allValid p s l ≡ true) where
-  raised-row : length (raisedBy p s (zeros p) l) ≡ 2 ^ p
-  raised-row = raised-length p s (zeros p) l ∙ length-replicate (2 ^ p) 0
-
   raised-small : largest (raisedBy p s (zeros p) l) ≤ 88 - p
   raised-small =
       largest-raised p s (zeros p) l (88 - p)
@@ -157,16 +140,7 @@ pub no-data : (l : List ℕ) → isEmpty l ≡ true → length l ≡ 0
 no-data l e = eqb-true (length l) 0 e
 
 pub some-data : (l : List ℕ) → isEmpty l ≡ false → 0 < length l
-some-data l e = positive (length l) (eqb-false (length l) 0 e)
-  where
-    positive : (k : ℕ) → (k ≡ 0 → ⊥) → 0 < k
-    positive zero f = absurd (f refl)
-    positive (suc k) f = omega arith
-
--- A choice, each way.
-pub either : {A : Type 0} (P : A → Type 0) (b : Bool) (x y : A) → (b ≡ true → P x) → (b ≡ false → P y) → P (cond b x y)
-either P true x y f g = f refl
-either P false x y f g = g refl
+some-data l e = pos-of-ne-zero (eqb-false (length l) 0 e)
 
 module _ (a : Accumulator) (m : Mem) (room : ℕ) (st : State) (vs : List ℕ) (ready : Ready a m room st vs) where
   facts : JudgedFacts a st
@@ -201,21 +175,11 @@ module _ (a : Accumulator) (m : Mem) (room : ℕ) (st : State) (vs : List ℕ) (
       }
 
   pub start-keeps : a .form ≡ Unstarted → (r : Accumulator) (n : Mem) → Shows (startAfter m st vs) r n → fits r n ≡ true
-  unfolding startAfter
   start-keeps f r n =
       let p = st .hll .precision in
       let s = st .hll .sparsePrecision in
       let mask = maskOf (st .valueType) in
-      let head = listHead mask (st .valueType) (st .numValues) p s (st .hll .sparseSize) (length vs) (length (listOf st)) 0 in
-      let asList : After = record { head = head; registers = m .registers; kept = vs; waiting = [] } in
-      let asDense : After =
-      record {
-        head = denseHead mask (st .valueType) (st .numValues) p s (st .hll .sparseSize);
-        registers = withRegisters p (dataOf st) (m .registers);
-        kept = [];
-        waiting = [];
-      } in
-      either (λ (x : After). Shows x r n → fits r n ≡ true) (isEmpty (dataOf st)) asList asDense
+      start-ways (λ (x : After). Shows x r n → fits r n ≡ true) m st vs
       (λ (e : isEmpty (dataOf st) ≡ true).
       list-fits mask (st .valueType) (st .numValues) p s (st .hll .sparseSize) (length (listOf st)) (m .registers) vs [] (length vs) 0
       (start-list e) refl refl r n)
@@ -230,7 +194,7 @@ module _ (a : Accumulator) (m : Mem) (room : ℕ) (st : State) (vs : List ℕ) (
     fit : FitSparse a m
     fit = fit-sparse a m (ready .fit) sparse
 
-    vs-valid : allValid (a .precision) (a .«sparse_precision») vs ≡ true
+    pub vs-valid : allValid (a .precision) (a .«sparse_precision») vs ≡ true
     vs-valid =
         subst (λ (k : ℕ). allValid k (a .«sparse_precision») vs ≡ true) (facts .same-normal sparse)
         (subst (λ (k : ℕ). allValid (st .hll .precision) k vs ≡ true) (facts .same-sparse sparse) (list-in .all))
@@ -243,22 +207,12 @@ module _ (a : Accumulator) (m : Mem) (room : ℕ) (st : State) (vs : List ℕ) (
 
     settle-keeps : (l : List ℕ) (bytes : ℕ) → allValid (a .precision) (a .«sparse_precision») l ≡ true → ascends l ≡ true → written l ≤ bytes
         → (r : Accumulator) (n : Mem) → Shows (settle a m st l bytes) r n → fits r n ≡ true
-    unfolding settle
     settle-keeps l bytes ok o w r n =
         let p = a .precision in
         let s = a .«sparse_precision» in
         let mask = commonMask a st in
         let count = sumCount a st in
-        let asList : After =
-        record { head = listHead mask (a .«value_type») count p s (length l) (length l) bytes 0; registers = m .registers; kept = l; waiting = [] } in
-        let asDense : After =
-        record {
-          head = denseHead mask (a .«value_type») count p s 0;
-          registers = withRegisters p (raisedBy p s (zeros p) l) (m .registers);
-          kept = [];
-          waiting = [];
-        } in
-        either (λ (x : After). Shows x r n → fits r n ≡ true) (ltb bytes (limit p)) asList asDense
+        settle-ways (λ (x : After). Shows x r n → fits r n ≡ true) m st a l bytes
         (λ (e : ltb bytes (limit p) ≡ true).
         list-fits mask (a .«value_type») count p s (length l) bytes (m .registers) l [] (length l) 0
         (record {
@@ -273,7 +227,7 @@ module _ (a : Accumulator) (m : Mem) (room : ℕ) (st : State) (vs : List ℕ) (
         }) refl refl r n)
         (λ (e : ltb bytes (limit p) ≡ false).
         row-fits mask (a .«value_type») count p s 0 (raisedBy p s (zeros p) l) (m .registers) (fit .pair .low) (fit .pair .high) pos room-in
-        (raised-row p s l (fit .pair) ok) (raised-small p s l (fit .pair) ok) r n)
+        (zeros-raised p s l) (raised-small p s l (fit .pair) ok) r n)
 
     kept-length : a .«sparse_len» ≡ length (keptOf a m)
     kept-length = sym (length-take-le (a .«sparse_len») (m .sparse) (fit .kept-in))
@@ -317,38 +271,20 @@ module _ (a : Accumulator) (m : Mem) (room : ℕ) (st : State) (vs : List ℕ) (
         }
 
     list-keeps : (r : Accumulator) (n : Mem) → Shows (listAfter a m st vs) r n → fits r n ≡ true
-    unfolding listAfter
     list-keeps r n =
         let p = a .precision in
         let s = a .«sparse_precision» in
         let kept = keptOf a m in
         let waiting = waitingOf a m in
-        let P : After → Type 0 = λ (x : After). Shows x r n → fits r n ≡ true in
-        let asWaiting : After =
-        record {
-          head =
-              listHead (commonMask a st) (a .«value_type») (sumCount a st) p s (a .«sparse_size») (a .«sparse_len») (a .«sparse_bytes»)
-              (a .«pending_len» + length vs);
-          registers = m .registers;
-          kept = kept;
-          waiting = waiting ++ vs;
-        } in
-        let all = settle a m st (merged p s kept (waiting ++ vs)) (written (merged p s kept (waiting ++ vs))) in
-        let inserted = settle a m st (merged p s kept vs) (a .«sparse_bytes» + written (merged p s kept vs) - written kept) in
-        let mergedIn = settle a m st (merged p s kept vs) (written (merged p s kept vs)) in
-        either P (waits a (length vs)) asWaiting (cond (not (eqb (a .«pending_len») 0)) all (cond (inserts a m (length vs)) inserted mergedIn))
+        list-ways (λ (x : After). Shows x r n → fits r n ≡ true) m st a vs
         (λ (e : waits a (length vs) ≡ true).
         list-fits (commonMask a st) (a .«value_type») (sumCount a st) p s (a .«sparse_size») (a .«sparse_bytes») (m .registers) kept (waiting ++ vs)
         (a .«sparse_len») (a .«pending_len» + length vs) (wait-list e) kept-length all-length r n)
-        (λ (e : waits a (length vs) ≡ false).
-        either P (not (eqb (a .«pending_len») 0)) all (cond (inserts a m (length vs)) inserted mergedIn)
-        (λ (f : not (eqb (a .«pending_len») 0) ≡ true). merge-keeps (waiting ++ vs) (written (merged p s kept (waiting ++ vs))) all-valid (omega arith) r n)
-        (λ (f : not (eqb (a .«pending_len») 0) ≡ false).
-        either P (inserts a m (length vs)) inserted mergedIn
-        (λ (g : inserts a m (length vs) ≡ true).
+        (merge-keeps (waiting ++ vs) (written (merged p s kept (waiting ++ vs))) all-valid (omega arith) r n)
+        (λ (e : not (eqb (a .«pending_len») 0) ≡ false).
         merge-keeps vs (a .«sparse_bytes» + written (merged p s kept vs) - written kept) vs-valid
         (let h : written kept ≤ a .«sparse_bytes» = fit .bytes-low in omega arith) r n)
-        (λ (g : inserts a m (length vs) ≡ false). merge-keeps vs (written (merged p s kept vs)) vs-valid (omega arith) r n)))
+        (λ (e : not (eqb (a .«pending_len») 0) ≡ false). merge-keeps vs (written (merged p s kept vs)) vs-valid (omega arith) r n)
 
     -- The list roll-up as it was, with another mask and count.
     same-list : GoodList (a .precision) (a .«sparse_precision») (a .«sparse_bytes») (keptOf a m) (waitingOf a m)
@@ -372,12 +308,12 @@ module _ (a : Accumulator) (m : Mem) (room : ℕ) (st : State) (vs : List ℕ) (
     both-row : List ℕ
     both-row = raisedBy (a .precision) (a .«sparse_precision») (zeros (a .precision)) (keptOf a m ++ waitingOf a m)
 
-    both-valid : allValid (a .precision) (a .«sparse_precision») (keptOf a m ++ waitingOf a m) ≡ true
+    pub both-valid : allValid (a .precision) (a .«sparse_precision») (keptOf a m ++ waitingOf a m) ≡ true
     both-valid = valid-append (a .precision) (a .«sparse_precision») (keptOf a m) (waitingOf a m) (fit .kept-valid) (fit .waiting-valid)
 
     both-long : length both-row ≡ 2 ^ a .precision
     unfolding both-row
-    both-long = raised-row (a .precision) (a .«sparse_precision») (keptOf a m ++ waitingOf a m) (fit .pair) both-valid
+    both-long = zeros-raised (a .precision) (a .«sparse_precision») (keptOf a m ++ waitingOf a m)
 
     both-small : largest both-row ≤ 88 - a .precision
     unfolding both-row
@@ -390,34 +326,15 @@ module _ (a : Accumulator) (m : Mem) (room : ℕ) (st : State) (vs : List ℕ) (
         (let h : largest (dataOf st) ≤ 88 - a .precision = omega (arith, facts .registers, facts .same-normal sparse) in h))
 
     pub sparse-keeps : (r : Accumulator) (n : Mem) → Shows (sparseAfter a m st vs) r n → fits r n ≡ true
-    unfolding sparseAfter both-row
+    unfolding both-row
     sparse-keeps r n =
         let p = a .precision in
         let s = a .«sparse_precision» in
-        let P : After → Type 0 = λ (x : After). Shows x r n → fits r n ≡ true in
-        let same : After =
-        record {
-          head =
-              listHead (commonMask a st) (a .«value_type») (sumCount a st) p s (a .«sparse_size») (a .«sparse_len») (a .«sparse_bytes»)
-              (a .«pending_len»);
-          registers = m .registers;
-          kept = keptOf a m;
-          waiting = waitingOf a m;
-        } in
-        let asDense : After =
-        record {
-          head = denseHead (commonMask a st) (a .«value_type») (sumCount a st) p s 0;
-          registers = withRegisters p (larger both-row (dataOf st)) (m .registers);
-          kept = [];
-          waiting = [];
-        } in
-        either P (isEmpty (dataOf st)) (cond (isEmpty (listOf st)) same (listAfter a m st vs)) asDense
-        (λ (e : isEmpty (dataOf st) ≡ true).
-        either P (isEmpty (listOf st)) same (listAfter a m st vs)
-        (λ (f : isEmpty (listOf st) ≡ true).
+        sparse-ways (λ (x : After). Shows x r n → fits r n ≡ true) m st a vs
+        (λ (e : isEmpty (dataOf st) ≡ true) (f : isEmpty (listOf st) ≡ true).
         list-fits (commonMask a st) (a .«value_type») (sumCount a st) p s (a .«sparse_size») (a .«sparse_bytes») (m .registers) (keptOf a m) (waitingOf a m)
         (a .«sparse_len») (a .«pending_len») same-list kept-length waiting-length r n)
-        (λ (f : isEmpty (listOf st) ≡ false). list-keeps r n))
+        (λ (e : isEmpty (dataOf st) ≡ true). list-keeps r n)
         (λ (e : isEmpty (dataOf st) ≡ false).
         row-fits (commonMask a st) (a .«value_type») (sumCount a st) p s 0 (larger both-row (dataOf st)) (m .registers) (fit .pair .low)
         (fit .pair .high) pos room-in (larger-length both-row (dataOf st) ∙ both-long) (larger-small e) r n)

@@ -3,17 +3,17 @@
 use Prim.Native.Nat.{ℕ, _+_, _<_, _≤_}
 use mathlib.Core.Path.{_≡_, refl, sym, ap, ap₂, _∙_, subst}
 use mathlib.Core.List.{List, _++_}
-use mathlib.Core.Bool.{Bool, true, false, cond, _&&_, not, true≢false}
+use mathlib.Core.Bool.{Bool, true, false, cond, _&&_, not}
 use mathlib.Core.Logic.{⊎-elim}
 use native.Mathlib.Omega.{arith}
 use lib.Dec.{ltb, leb, eqb}
 use lib.ListN.{length, take}
 use borrow.Author.Tests.{le-leb, lt-leb, eq-eqb, ne-eqb, eqb-true, eqb-false}
 use Rattle.wire.specs.State.{State}
-use Rattle.wire.proofs.BoolLaws.{both-true}
+use Rattle.wire.proofs.BoolLaws.{both-true, never}
 use Rattle.lists.specs.declared.values.Sparse.{Sparse as Encoding}
 use Rattle.lists.specs.Values.{NewPost}
-use Rattle.lists.specs.Lists.{merged, written, distinctSlots}
+use Rattle.lists.specs.Lists.{merged, distinctSlots}
 use Rattle.lists.proofs.MergeLaws.{merged-distinct}
 use Rattle.rollup.specs.declared.accumulator.Form.{Form}
 use Rattle.rollup.specs.declared.accumulator.Form.the-variants.{Unstarted, Sparse, Dense}
@@ -21,22 +21,22 @@ use Rattle.rollup.specs.declared.accumulator.Accumulator.{Accumulator}
 use Rattle.rollup.specs.declared.adding.Added.{Added}
 use Rattle.rollup.specs.Accumulator.{Mem, keptOf, waitingOf, limit, fits}
 use Rattle.rollup.specs.Header.{dataOf, listOf, isEmpty}
-use Rattle.rollup.specs.Adding.{After, unchanged, settle, waits, inserts, listAfter, sparseAfter, acceptedAfter, Shows, AddPost}
+use Rattle.rollup.specs.Adding.{After, unchanged, settle, waits, listAfter, sparseAfter, acceptedAfter, Shows, AddPost}
 use Rattle.rollup.specs.Calls.{stateIn, valuesIn}
 use Rattle.rollup.specs.Fitting.{rangesFit}
 use Rattle.rollup.specs.SparsePaths.{KnownDistinct}
 use Rattle.rollup.specs.Knowing.{listDistinct, keptDistinct, listStill, stillDistinct}
 use Rattle.rollup.proofs.SparseLaws.{at-pair}
-use Rattle.rollup.proofs.KeepsLaws.{either}
+use Rattle.rollup.proofs.WaysLaws.{settle-ways, list-ways, sparse-ways}
 use Rattle.rollup.proofs.ViewLaws.{IsRefused, IsAccepted, add-view}
 
 -- A list that was looked at.
 pub kept-known : (f : Form) (a : Accumulator) (sparse : List ℕ) → KnownDistinct (keptDistinct f a sparse) (a .precision) (a .«sparse_precision») (take (a .«sparse_len») sparse)
-kept-known Unstarted a sparse e = absurd (true≢false (sym e))
+kept-known Unstarted a sparse e = never e
 kept-known Sparse a sparse e =
     both-true (rangesFit (a .precision) (a .«sparse_precision») && leb (a .«sparse_len») (length sparse))
     (distinctSlots (a .precision) (a .«sparse_precision») (take (a .«sparse_len») sparse)) e .1
-kept-known Dense a sparse e = absurd (true≢false (sym e))
+kept-known Dense a sparse e = never e
 
 -- ---- the code's questions
 
@@ -105,33 +105,22 @@ module _ (a : Accumulator) (m : Mem) (known : Bool) (is : KnownDistinct known (a
       pick false e = e
 
   still-settle : (st : State) (l : List ℕ) (bytes : ℕ) → distinctSlots (a .precision) (a .«sparse_precision») l ≡ true → Still (settle a m st l bytes)
-  unfolding settle
   still-settle st l bytes e =
-      either Still (ltb bytes (limit (a .precision))) _ _ (λ (t : ltb bytes (limit (a .precision)) ≡ true) f. e)
-      (λ (t : ltb bytes (limit (a .precision)) ≡ false) (f : false ≡ true). absurd (true≢false (sym f)))
+      settle-ways Still m st a l bytes (λ (t : ltb bytes (limit (a .precision)) ≡ true) f. e) (λ (t : ltb bytes (limit (a .precision)) ≡ false). never)
 
   still-merged : (st : State) (l : List ℕ) (bytes : ℕ) → Still (settle a m st (merged (a .precision) (a .«sparse_precision») (keptOf a m) l) bytes)
   still-merged st l bytes =
       still-settle st (merged (a .precision) (a .«sparse_precision») (keptOf a m) l) bytes (merged-distinct (a .precision) (a .«sparse_precision») (keptOf a m) l)
 
   still-list : (st : State) (vs : List ℕ) → Still (listAfter a m st vs)
-  unfolding listAfter
   still-list st vs =
-      either Still (waits a (length vs)) _ _ (λ (t : waits a (length vs) ≡ true) e. is (as-before (length vs) e))
-      (λ (t : waits a (length vs) ≡ false).
-      either Still (not (eqb (a .«pending_len») 0)) _ _ (λ (u : not (eqb (a .«pending_len») 0) ≡ true). still-merged st (waitingOf a m ++ vs) _)
-      (λ (u : not (eqb (a .«pending_len») 0) ≡ false).
-      either Still (inserts a m (length vs)) _ _ (λ (w : inserts a m (length vs) ≡ true). still-merged st vs _)
-      (λ (w : inserts a m (length vs) ≡ false). still-merged st vs _)))
+      list-ways Still m st a vs (λ (t : waits a (length vs) ≡ true) e. is (as-before (length vs) e)) (still-merged st (waitingOf a m ++ vs) _)
+      (λ (t : not (eqb (a .«pending_len») 0) ≡ false). still-merged st vs _) (λ (t : not (eqb (a .«pending_len») 0) ≡ false). still-merged st vs _)
 
   still-sparse : (st : State) (vs : List ℕ) → Still (sparseAfter a m st vs)
-  unfolding sparseAfter
   still-sparse st vs =
-      either Still (isEmpty (dataOf st)) _ _
-      (λ (t : isEmpty (dataOf st) ≡ true).
-      either Still (isEmpty (listOf st)) _ _ (λ (u : isEmpty (listOf st) ≡ true) e. is (same-before e))
-      (λ (u : isEmpty (listOf st) ≡ false). still-list st vs))
-      (λ (t : isEmpty (dataOf st) ≡ false) (f : false ≡ true). absurd (true≢false (sym f)))
+      sparse-ways Still m st a vs (λ (t : isEmpty (dataOf st) ≡ true) (u : isEmpty (listOf st) ≡ true) e. is (same-before e))
+      (λ (t : isEmpty (dataOf st) ≡ true). still-list st vs) (λ (t : isEmpty (dataOf st) ≡ false). never)
 
   -- And so of what it left.
   of-shows : (x : After) (r : Accumulator) (n : Mem) → Shows x r n → Still x
@@ -161,4 +150,4 @@ module _ (a : Accumulator) (m : Mem) (known : Bool) (is : KnownDistinct known (a
         of-form : (f : Form) → a .form ≡ f → KnownDistinct (stillDistinct f a (r .head) (n .sparse) known) (r .head .precision) (r .head .«sparse_precision») (keptOf (r .head) n)
         of-form Unstarted e = kept-known (r .head .form) (r .head) (n .sparse)
         of-form Sparse e = still-list-form e
-        of-form Dense e = λ (f : false ≡ true). absurd (true≢false (sym f))
+        of-form Dense e = never

@@ -4,6 +4,7 @@ pub mod AddLaws
 pub mod FitLaws
 pub mod JudgeLaws
 pub mod SparseLaws
+pub mod WaysLaws
 pub mod WriteLaws
 pub mod WrittenLaws
 pub mod KeepsLaws

@@ -2,8 +2,9 @@
 use Prim.Native.Nat.{ℕ, _+_, _-_, _*_, _%_, _^_, _<_, _≤_}
 use mathlib.Core.Path.{_≡_, refl, sym, ap, ap₂, subst, _∙_}
 use mathlib.Core.Bool.{Bool, true, false, cond, _&&_, not, true≢false}
-use mathlib.Core.List.{List, [], _++_, List·Permᴰ, List·Memᴰ, Permᴰ·refl, Permᴰ·append-left, List·Memᴰ·append-cases}
+use mathlib.Core.List.{List, [], _++_, List·Permᴰ, Permᴰ·refl, Permᴰ·append-left}
 use mathlib.Core.Logic.{⊎-elim}
+use native.Mathlib.Nat.{pos-of-ne-zero}
 use native.Mathlib.Omega.{arith}
 use lib.Bits.{bitAnd}
 use lib.Dec.{leb, eqb}
@@ -19,12 +20,12 @@ use Rattle.lists.specs.Values.{Pair, SparseFits, NewPost}
 use Rattle.lists.specs.Sorting.{ascends, sortOf}
 use Rattle.lists.specs.Lists.{allValid, written, merged, distinctSlots, MergePost, InsertPre, InsertPost}
 use Rattle.lists.specs.Registers.{registerBytes, registersOf, withRegisters, zeros, raisedBy, larger}
-use Rattle.lists.proofs.OrderLaws.{ascends-sort, length-sort, perm-sort, mem-perm}
-use Rattle.lists.proofs.MergeLaws.{valid-mem, mem-valid, merged-perm, merged-valid, length-merged, length-encode}
+use Rattle.lists.proofs.OrderLaws.{ascends-sort, length-sort, perm-sort}
+use Rattle.lists.proofs.MergeLaws.{valid-append, valid-sort, merged-perm, merged-valid, length-merged, length-encode}
 use Rattle.lists.specs.Lists.{encodeList}
 use Rattle.lists.proofs.DecodingLaws.{Accepted, accepted, decode-encode}
-use Rattle.lists.proofs.RegisterLaws.{of-with, with-with, with-length, row-registers}
-use Rattle.lists.proofs.RankLaws.{raised-append, raised-length}
+use Rattle.lists.proofs.RegisterLaws.{of-with, with-room, with-with, row-registers}
+use Rattle.lists.proofs.RankLaws.{raised-append, zeros-raised}
 use Rattle.rollup.specs.declared.accumulator.Form.{Form}
 use Rattle.rollup.specs.declared.accumulator.Form.the-variants.{Sparse}
 use Rattle.rollup.specs.declared.accumulator.Accumulator.{Accumulator}
@@ -82,9 +83,6 @@ counted-head a mask count e =
 
 module _ (p s : ℕ) (bytes : List ℕ) (room : registerBytes p ≤ length bytes) where
   module _ (regs before : List ℕ) (size : length regs ≡ 2 ^ p) (e : before ≡ withRegisters p regs bytes) where
-    over-room : registerBytes p ≤ length before
-    over-room = omega (arith, room, ap length e, with-length p bytes room regs size)
-
     set-over : (l after : List ℕ) → after ≡ withRegisters p (raisedBy p s (registersOf p before) l) before
         → after ≡ withRegisters p (raisedBy p s regs l) bytes
     set-over l after f =
@@ -101,31 +99,25 @@ module _ (p s : ℕ) (bytes : List ℕ) (room : registerBytes p ≤ length bytes
         ∙ ap₂ (λ (x y : List ℕ). withRegisters p (larger x y) (withRegisters p regs bytes)) (of-with p bytes room regs size) (row-registers p row g)
         ∙ with-with p bytes room regs size (larger regs row)
 
-  zeros-length : length (zeros p) ≡ 2 ^ p
-  zeros-length = length-replicate (2 ^ p) 0
-
   -- Cleared, and then a list is set.
   pub cleared-set : (l cleared after : List ℕ) → cleared ≡ withRegisters p (zeros p) bytes → after ≡ withRegisters p (raisedBy p s (registersOf p cleared) l) cleared
       → after ≡ withRegisters p (raisedBy p s (zeros p) l) bytes
-  cleared-set l cleared after e f = set-over (zeros p) cleared zeros-length e l after f
-
-  raised-size : (l : List ℕ) → length (raisedBy p s (zeros p) l) ≡ 2 ^ p
-  raised-size l = raised-length p s (zeros p) l ∙ zeros-length
+  cleared-set l cleared after e f = set-over (zeros p) cleared (length-replicate (2 ^ p) 0) e l after f
 
   pub set-room : (l after : List ℕ) → after ≡ withRegisters p (raisedBy p s (zeros p) l) bytes → registerBytes p ≤ length after
-  set-room l after e = over-room (raisedBy p s (zeros p) l) after (raised-size l) e
+  set-room l after e = with-room p bytes room (raisedBy p s (zeros p) l) (zeros-raised p s l) after e
 
   -- A list was set, and a second one is set.
   pub both-set : (kept waiting first second : List ℕ) → first ≡ withRegisters p (raisedBy p s (zeros p) kept) bytes
       → second ≡ withRegisters p (raisedBy p s (registersOf p first) waiting) first → second ≡ withRegisters p (raisedBy p s (zeros p) (kept ++ waiting)) bytes
   both-set kept waiting first second e f =
-      set-over (raisedBy p s (zeros p) kept) first (raised-size kept) e waiting second f
+      set-over (raisedBy p s (zeros p) kept) first (zeros-raised p s kept) e waiting second f
       ∙ ap (λ (x : List ℕ). withRegisters p x bytes) (sym (raised-append p s (zeros p) kept waiting))
 
   -- A list was set, and a row of registers is taken in.
   pub row-over : (l row before after : List ℕ) → length row ≡ 2 ^ p → before ≡ withRegisters p (raisedBy p s (zeros p) l) bytes
       → after ≡ withRegisters p (larger (registersOf p before) (registersOf p row)) before → after ≡ withRegisters p (larger (raisedBy p s (zeros p) l) row) bytes
-  row-over l row before after g e h = max-over (raisedBy p s (zeros p) l) before (raised-size l) e row after g h
+  row-over l row before after g e h = max-over (raisedBy p s (zeros p) l) before (zeros-raised p s l) e row after g h
 
 -- ---- after a merge
 
@@ -201,15 +193,6 @@ copied w k r front after e f = ap (λ (n : ℕ). take n after) (let g : w + k �
 -- ---- merges
 
 module _ (p s : ℕ) where
-  valid-append : (a b : List ℕ) → allValid p s a ≡ true → allValid p s b ≡ true → allValid p s (a ++ b) ≡ true
-  valid-append a b f g =
-      mem-valid p s (a ++ b)
-      (λ (v : ℕ) (m : List·Memᴰ v (a ++ b)).
-      ⊎-elim (λ (i : List·Memᴰ v a). valid-mem p s v a f i) (λ (i : List·Memᴰ v b). valid-mem p s v b g i) (List·Memᴰ·append-cases a m))
-
-  pub valid-sort : (l : List ℕ) → allValid p s l ≡ true → allValid p s (sortOf l) ≡ true
-  valid-sort l f = mem-valid p s (sortOf l) (λ (v : ℕ) (m : List·Memᴰ v (sortOf l)). valid-mem p s v l f (mem-perm (perm-sort l) m))
-
   pub merged-sort : (a b : List ℕ) → merged p s a (sortOf b) ≡ merged p s a b
   merged-sort a b = merged-perm p s a (sortOf b) a b (Permᴰ·append-left a (perm-sort b))
 
@@ -531,11 +514,11 @@ module _ (a : Accumulator) (m : Mem) (st : State) where
     list-is = ap (cond (waits a (length vs)) (asWaiting countedBy m vs)) (unwaited-is (eqb (a .«pending_len») 0) refl)
 
     -- The three cases of a state at a list roll-up.
-    abbrev unlisted : After
+    abbrev pub unlisted : After
     unlisted =
         record { head = countedBy; registers = m .registers; kept = keptOf a m; waiting = waitingOf a m }
 
-    abbrev fromData : After
+    abbrev pub fromData : After
     fromData =
         record {
           head = densed countedBy;
@@ -640,9 +623,6 @@ spaces a m room st e =
       scratch-fit = leb-true (wantedCells a st) room (both-true (r && s && p) w e .1);
     }
 
-some-of : (n : ℕ) → (n ≡ 0 → ⊥) → 0 < n
-some-of n f = ⊎-elim (λ (h : 0 < n). h) (λ (h : n ≤ 0). absurd (f (let z : n ≡ 0 = omega arith in z))) (side 0 n)
-
 pub known : (a : Accumulator) (m : Mem) (room : ℕ) (st : State) (vs : List ℕ) → a .form ≡ Sparse → Ready a m room st vs → SparseKnown a m room st vs
 known a m room st vs f x =
     let j = judged-facts a st (x .judged) in
@@ -653,7 +633,7 @@ known a m room st vs f x =
     record {
       fit = fit-sparse a m (x .fit) f;
       in-registers = subst (λ (n : ℕ). n ≤ length (m .registers)) bytes (r .registers-fit);
-      size = λ (n : length (dataOf st) ≡ 0 → ⊥). j .size (some-of (length (dataOf st)) n) ∙ ap (λ (q : ℕ). 2 ^ q) p;
+      size = λ (n : length (dataOf st) ≡ 0 → ⊥). j .size (pos-of-ne-zero n) ∙ ap (λ (q : ℕ). 2 ^ q) p;
       in-lists = λ (n : length (listOf st) ≡ 0 → ⊥).
           let cells : wantedCells a st ≡ a .«sparse_len» + a .«pending_len» + length (listOf st) =
           ap (λ (b : Bool). cond b 0 (a .«sparse_len» + a .«pending_len» + length (listOf st))) (ne-eqb (length (listOf st)) 0 n) in

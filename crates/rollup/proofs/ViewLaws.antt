@@ -1,14 +1,15 @@
 -- One view of a call: it was refused, with a number and nothing changed, or accepted, with all that the questions told. And what follows of both:
 -- whatever a call was and answered, what it leaves fits again. No file but AddLaws and this one looks at the questions of `addOutcome`.
-use Prim.Native.Nat.{ℕ, zero, suc, _^_, _<_, _≤_}
+use Prim.Native.Nat.{ℕ, _^_, _<_, _≤_}
 use mathlib.Core.Path.{_≡_, refl, sym, ap, _∙_, subst}
 use mathlib.Core.Bool.{Bool, true, false, cond}
 use mathlib.Core.Logic.{_⊎_, inl, inr, ⊎-elim}
 use mathlib.Core.List.{List, []}
+use native.Mathlib.Nat.{pos-of-ne-zero}
 use native.Mathlib.Omega.{arith}
 use lib.Dec.{leb, eqb}
 use lib.ListN.{length}
-use borrow.Author.Tests.{leb-true}
+use borrow.Author.Tests.{leb-true, eqb-false}
 use Rattle.wire.specs.Reading.{Read, got, refused, andThen}
 use Rattle.wire.specs.State.{State, emptyState, readState}
 use Rattle.wire.proofs.BoundLaws.{sparse-data-within, sparse-precision-small, read-number}
@@ -20,6 +21,7 @@ use Rattle.rollup.specs.Header.{listOf, headerAnswer}
 use Rattle.rollup.specs.Adding.{Outcome, unchanged, refuse, accept, acceptedAfter, masksMeet, carried, judgeState, judge, hasRoom, listedIn, addOutcome, Ready, Shows, AddPost}
 use Rattle.rollup.specs.Calls.{Call, Run, begun, adding, writing, valueOr, stateIn, valuesIn}
 use Rattle.rollup.proofs.FitLaws.{fit-none-back}
+use Rattle.rollup.proofs.JudgeLaws.{judged-same}
 use Rattle.rollup.proofs.AddLaws.{add-judged, add-full, add-listed, add-accepted}
 use Rattle.rollup.proofs.KeepsLaws.{accepted-keeps, refused-keeps, write-keeps}
 
@@ -32,22 +34,6 @@ record JudgedRead (a : Accumulator) (bytes : List ℕ) (st : State) : Type 0 whe
   read : readState bytes ≡ got st rest
   judged : judgeState a st ≡ got st []
 
-same-state : (a : Accumulator) (st other : State) (rest : List ℕ) → judgeState a st ≡ got other rest → (st ≡ other) × (judgeState a st ≡ got st [])
-unfolding judgeState
-same-state a st other rest = pick (eqb (headerAnswer st) 0) (masksMeet a st) (carried a st)
-  where
-    pick : (h m c : Bool) → cond h (cond m (cond c (got st []) (refused 16)) (refused 15)) (refused (headerAnswer st)) ≡ got other rest
-        → (st ≡ other) × (cond h (cond m (cond c (got st []) (refused 16)) (refused 15)) (refused (headerAnswer st)) ≡ got st [])
-    pick true true true e = (cc, refl)
-    pick true true false e = absurd (let z : _≡_ {A = ℕ} 0 1 = cc in omega arith)
-    pick true false c e = absurd (let z : _≡_ {A = ℕ} 0 1 = cc in omega arith)
-    pick false m c e = absurd (let z : _≡_ {A = ℕ} 0 1 = cc in omega arith)
-
--- A number that is not 0.
-above : (n : ℕ) → eqb n 0 ≡ false → 0 < n
-above zero e = absurd (let z : _≡_ {A = ℕ} 0 1 = cc in omega arith)
-above (suc n) e = omega arith
-
 judge-got : (a : Accumulator) (bytes : List ℕ) (st : State) (rest : List ℕ) → judge a bytes ≡ got st rest → JudgedRead a bytes st
 unfolding judge
 judge-got a bytes st rest = by-length (leb (length bytes) 2147483647) refl
@@ -55,7 +41,7 @@ judge-got a bytes st rest = by-length (leb (length bytes) 2147483647) refl
     by-read : length bytes ≤ 2147483647 → (x : Read State) → readState bytes ≡ x → andThen x (λ st nothing. judgeState a st) ≡ got st rest → JudgedRead a bytes st
     by-read l (refused n) f e = absurd (let z : _≡_ {A = ℕ} 0 1 = cc in omega arith)
     by-read l (got read more) f e =
-        let same = same-state a read st rest e in
+        let same = judged-same a read st rest e in
         record {
           short = l;
           rest = more;
@@ -78,7 +64,7 @@ judge-number a bytes n = by-length (leb (length bytes) 2147483647)
     by-state st true true true f e = absurd (let z : _≡_ {A = ℕ} 0 1 = cc in omega arith)
     by-state st true true false f e = let z : 16 ≡ n = cc in omega arith
     by-state st true false c f e = let z : 15 ≡ n = cc in omega arith
-    by-state st false m c f e = let z : headerAnswer st ≡ n = cc in let k = above (headerAnswer st) f in omega arith
+    by-state st false m c f e = let z : headerAnswer st ≡ n = cc in let k = pos-of-ne-zero (eqb-false (headerAnswer st) 0 f) in omega arith
 
     by-read : (x : Read State) → readState bytes ≡ x → andThen x (λ st nothing. judgeState a st) ≡ refused n → 0 < n
     by-read (refused k) f e = let z : k ≡ n = cc in let p = read-number bytes k f in omega arith

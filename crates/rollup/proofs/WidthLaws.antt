@@ -11,6 +11,7 @@ use lib.ListN.{length, length-append}
 use lib.Seq.{length-take-le}
 use Rattle.wire.specs.Reading.{Read, got, refused}
 use Rattle.wire.specs.State.{State, emptyState, readState}
+use Rattle.wire.proofs.BoolLaws.{either}
 use Rattle.wire.proofs.BoundLaws.{sparse-precision-small, sparse-size-small, count-small, value-type-small}
 use Rattle.lists.specs.Lists.{merged}
 use Rattle.lists.proofs.MergeLaws.{length-merged}
@@ -20,11 +21,11 @@ use Rattle.rollup.specs.declared.accumulator.Form.the-variants.{Unstarte
 use Rattle.rollup.specs.declared.accumulator.Accumulator.{Accumulator}
 use Rattle.rollup.specs.Accumulator.{Mem, keptOf, waitingOf, limit}
 use Rattle.rollup.specs.Header.{dataOf, listOf, isEmpty}
-use Rattle.rollup.specs.Adding.{After, signedMin, signedKey, waits, inserts, startAfter, settle, listAfter, sparseAfter, denseAfter, acceptedAfter, Ready}
+use Rattle.rollup.specs.Adding.{After, signedMin, signedKey, waits, startAfter, settle, listAfter, sparseAfter, denseAfter, acceptedAfter, Ready}
 use Rattle.rollup.specs.Calls.{Call, Run, begun, adding, writing, valueOr, stateIn, valuesIn}
 use Rattle.rollup.proofs.FitLaws.{FitSparse, fit-sparse}
 use Rattle.rollup.proofs.SparseLaws.{counts-short}
-use Rattle.rollup.proofs.KeepsLaws.{either}
+use Rattle.rollup.proofs.WaysLaws.{start-ways, settle-ways, list-ways, sparse-ways}
 use Rattle.rollup.proofs.WrittenLaws.{HeadWidths}
 use Rattle.rollup.proofs.ViewLaws.{IsRefused, IsAccepted, add-view, run-fits}
 
@@ -49,9 +50,6 @@ state-widths bytes = go (readState bytes) refl
           size = sparse-size-small bytes st l e;
         }
 
-below : (n k : ℕ) → 0 < 2 ^ k → n % 2 ^ k < 2 ^ k
-below n k h = mod-lt n h
-
 signed-small : (x y : ℕ) → x < 2 ^ 32 → y < 2 ^ 32 → signedMin x y < 2 ^ 32
 signed-small x y h k = either (λ (v : ℕ). v < 2 ^ 32) (ltb (signedKey y) (signedKey x)) y x (λ (e : ltb (signedKey y) (signedKey x) ≡ true). k) (λ (e : ltb (signedKey y) (signedKey x) ≡ false). h)
 
@@ -60,19 +58,17 @@ Wide x = HeadWidths (x .head)
 
 module _ (a : Accumulator) (m : Mem) (room : ℕ) (st : State) (vs : List ℕ) (ready : Ready a m room st vs) (w : HeadWidths a) (s : StateWidths st) where
   start-widths : Wide (startAfter m st vs)
-  unfolding startAfter
   start-widths =
-      either Wide (isEmpty (dataOf st)) _ _
+      start-ways Wide m st vs
       (λ (e : isEmpty (dataOf st) ≡ true). record { value-type = s .value-type; count = s .count; sparse-precision = s .sparse-precision; size = s .size })
       (λ (e : isEmpty (dataOf st) ≡ false). record { value-type = s .value-type; count = s .count; sparse-precision = s .sparse-precision; size = s .size })
 
   sum-small : (a .«num_values» + st .numValues) % 2 ^ 64 < 2 ^ 64
-  sum-small = below (a .«num_values» + st .numValues) 64 (omega arith)
+  sum-small = mod-lt (a .«num_values» + st .numValues) (let h : 0 < 2 ^ 64 = omega arith in h)
 
   settle-widths : (l : List ℕ) (bytes : ℕ) → length l < 2 ^ 32 → Wide (settle a m st l bytes)
-  unfolding settle
   settle-widths l bytes h =
-      either Wide (ltb bytes (limit (a .precision))) _ _
+      settle-ways Wide m st a l bytes
       (λ (e : ltb bytes (limit (a .precision)) ≡ true). record { value-type = w .value-type; count = sum-small; sparse-precision = w .sparse-precision; size = h })
       (λ (e : ltb bytes (limit (a .precision)) ≡ false).
       record { value-type = w .value-type; count = sum-small; sparse-precision = w .sparse-precision; size = omega arith })
@@ -103,24 +99,17 @@ module _ (a : Accumulator) (m : Mem) (room : ℕ) (st : State) (vs : List ℕ) (
     new-widths bytes = settle-widths (merged (a .precision) (a .«sparse_precision») (keptOf a m) vs) bytes (few vs (omega arith))
 
     list-widths : Wide (listAfter a m st vs)
-    unfolding listAfter
     list-widths =
-        either Wide (waits a (length vs)) _ _
+        list-ways Wide m st a vs
         (λ (e : waits a (length vs) ≡ true). record { value-type = w .value-type; count = sum-small; sparse-precision = w .sparse-precision; size = w .size })
-        (λ (e : waits a (length vs) ≡ false).
-        either Wide (not (eqb (a .«pending_len») 0)) _ _ (λ (f : not (eqb (a .«pending_len») 0) ≡ true). all-widths _)
-        (λ (f : not (eqb (a .«pending_len») 0) ≡ false).
-        either Wide (inserts a m (length vs)) _ _ (λ (g : inserts a m (length vs) ≡ true). new-widths _)
-        (λ (g : inserts a m (length vs) ≡ false). new-widths _)))
+        (all-widths _) (λ (e : not (eqb (a .«pending_len») 0) ≡ false). new-widths _) (λ (e : not (eqb (a .«pending_len») 0) ≡ false). new-widths _)
 
     sparse-widths : Wide (sparseAfter a m st vs)
-    unfolding sparseAfter
     sparse-widths =
-        either Wide (isEmpty (dataOf st)) _ _
-        (λ (e : isEmpty (dataOf st) ≡ true).
-        either Wide (isEmpty (listOf st)) _ _
-        (λ (f : isEmpty (listOf st) ≡ true). record { value-type = w .value-type; count = sum-small; sparse-precision = w .sparse-precision; size = w .size })
-        (λ (f : isEmpty (listOf st) ≡ false). list-widths))
+        sparse-ways Wide m st a vs
+        (λ (e : isEmpty (dataOf st) ≡ true) (f : isEmpty (listOf st) ≡ true).
+        record { value-type = w .value-type; count = sum-small; sparse-precision = w .sparse-precision; size = w .size })
+        (λ (e : isEmpty (dataOf st) ≡ true). list-widths)
         (λ (e : isEmpty (dataOf st) ≡ false).
         record { value-type = w .value-type; count = sum-small; sparse-precision = w .sparse-precision; size = omega arith })
 

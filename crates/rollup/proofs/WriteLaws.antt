@@ -29,7 +29,7 @@ use Rattle.lists.specs.Lists.{allValid, written, encodeList, merged, distinctSl
 use Rattle.lists.specs.Merging.{EncodePre, MergePre}
 use Rattle.lists.specs.Registers.{registerBytes, registersOf}
 use Rattle.lists.proofs.OrderLaws.{ascends-sort, length-sort, perm-sort}
-use Rattle.lists.proofs.MergeLaws.{merged-ascends, merged-distinct, merged-valid, length-merged, length-encode}
+use Rattle.lists.proofs.MergeLaws.{valid-sort, merged-ascends, merged-distinct, merged-valid, length-merged, length-encode}
 use Rattle.lists.proofs.IndexLaws.{distinct-merged, distinct-le}
 use Rattle.lists.proofs.RegisterLaws.{registers-are}
 use Rattle.rollup.specs.declared.accumulator.Form.{Form}
@@ -41,7 +41,7 @@ use Rattle.rollup.specs.Adding.{isStarted}
 use Rattle.rollup.specs.Writing.{flushed, currentSize, stateWith, stateForm, belowLimit, unless, writeOutcome, WritePost}
 use Rattle.rollup.specs.WritingPaths.{Writes, writtenFields, listOutcome, ValuesPre, FlushPre, FlushPost}
 use Rattle.rollup.proofs.FitLaws.{FitSparse, fit-sparse, fit-dense, whole-sparse, limit-small}
-use Rattle.rollup.proofs.SparseLaws.{at-pair, of-pair, counts-short, valid-sort, merged-sort, merge-post}
+use Rattle.rollup.proofs.SparseLaws.{at-pair, of-pair, counts-short, merged-sort, merge-post}
 
 -- ---- a question that is answered with yes, and one with no
 

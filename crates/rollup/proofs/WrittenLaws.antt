@@ -1,16 +1,16 @@
 -- What is written of a roll-up is read back, and no proper prefix of it is accepted: for readers of what was written.
-use Prim.Native.Nat.{ℕ, _^_, _<_}
+use Prim.Native.Nat.{ℕ, _+_, _^_, _<_, _≤_}
 use mathlib.Core.Path.{_≡_, refl, sym, ap, subst, _∙_}
 use mathlib.Core.Bool.{Bool, true, false, true≢false}
 use mathlib.Core.List.{List, []}
-use mathlib.Core.Option.{none, some}
+use mathlib.Core.Option.{Option, none, some}
 use native.Mathlib.Omega.{arith}
 use lib.ListN.{length, take}
 use lib.Pow.{pow-mono}
 use Rattle.wire.specs.Reading.{got}
-use Rattle.wire.specs.State.{State, readState}
+use Rattle.wire.specs.State.{State, bytesOrNone, readState}
 use Rattle.wire.specs.Encoding.{FitsWidths, CutReading}
-use Rattle.wire.proofs.EncodingLaws.{hll-length, hll-start-length, hll-numbers-le, field-le}
+use Rattle.wire.proofs.EncodingLaws.{hll-le}
 use Rattle.wire.proofs.RoundTrip.{round-trip, cut-reading}
 use Rattle.lists.specs.Lists.{encodeList}
 use Rattle.lists.specs.Registers.{registersOf}
@@ -43,59 +43,35 @@ module _ (a : Accumulator) (m : Mem) (room space : ℕ) (wrote : writeOutcome a 
   abbrev state : State
   state = stateForm (a .form) a m
 
+  -- A state with the head's numbers, where its nested message is not too long.
+  state-widths : (size : ℕ) (d l : Option (List ℕ)) → HeadWidths a → size < 2 ^ 32 → a .precision ≤ 24
+      → length (bytesOrNone d) + length (bytesOrNone l) ≤ 2 ^ 27 → FitsWidths (stateWith a size d l)
+  state-widths size d l w h p short =
+      record {
+        aggregatorType = omega arith;
+        numValues = w .count;
+        encodingVersion = omega arith;
+        valueType = w .value-type;
+        sparseSize = h;
+        precision = omega arith;
+        sparsePrecision = w .sparse-precision;
+        nested = omega (arith, hll-le (stateWith a size d l .hll));
+      }
+
   -- A list roll-up's state has a list below the limit, a dense one's 2^p data bytes.
   list-widths : a .form ≡ Sparse → HeadWidths a → FitsWidths state
   list-widths e w =
       let fit = fit-sparse a m (facts .fit) e in
-      let st = stateWith a (currentSize a m) none (some (encodeList (flushed a m))) in
       subst FitsWidths (sym (list-state a m e))
-      (record {
-        aggregatorType = omega arith;
-        numValues = w .count;
-        encodingVersion = omega arith;
-        valueType = w .value-type;
-        sparseSize = size-fits a m fit (w .size);
-        precision = omega (arith, fit .pair .high);
-        sparsePrecision = w .sparse-precision;
-        nested =
-            omega (
-              arith,
-              hll-length (st .hll),
-              hll-start-length (st .hll),
-              hll-numbers-le (st .hll),
-              field-le 5 (st .hll .«data»),
-              field-le 6 (st .hll .sparseData),
-              length-encode (flushed a m),
-              list-below a m e (facts .below),
-              limit-small (a .precision) (fit .pair .high),
-            );
-      })
+      (state-widths (currentSize a m) none (some (encodeList (flushed a m))) w (size-fits a m fit (w .size)) (fit .pair .high)
+      (omega (arith, length-encode (flushed a m), list-below a m e (facts .below), limit-small (a .precision) (fit .pair .high))))
 
   dense-widths : a .form ≡ Dense → HeadWidths a → FitsWidths state
   dense-widths e w =
       let fit = fit-dense a m (facts .fit) e in
-      let st = stateWith a (a .«sparse_size») (some (registersOf (a .precision) (m .registers))) none in
       subst FitsWidths (sym (dense-state a m e))
-      (record {
-        aggregatorType = omega arith;
-        numValues = w .count;
-        encodingVersion = omega arith;
-        valueType = w .value-type;
-        sparseSize = w .size;
-        precision = omega (arith, fit .high);
-        sparsePrecision = w .sparse-precision;
-        nested =
-            omega (
-              arith,
-              hll-length (st .hll),
-              hll-start-length (st .hll),
-              hll-numbers-le (st .hll),
-              field-le 5 (st .hll .«data»),
-              field-le 6 (st .hll .sparseData),
-              of-length (a .precision) (m .registers) (fit .room),
-              pow-mono (fit .high),
-            );
-      })
+      (state-widths (a .«sparse_size») (some (registersOf (a .precision) (m .registers))) none w (w .size) (fit .high)
+      (omega (arith, of-length (a .precision) (m .registers) (fit .room), pow-mono (fit .high))))
 
   widths : HeadWidths a → FitsWidths state
   widths w = by-form (a .form) refl

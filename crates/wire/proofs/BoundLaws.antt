@@ -3,7 +3,7 @@
 use Prim.Native.Nat.{ℕ, zero, suc, _%_, _^_, _<_, _≤_}
 use mathlib.Core.Path.{_≡_, subst}
 use mathlib.Core.List.{List, [], _∷_}
-use mathlib.Core.Bool.{Bool, true, false, cond}
+use mathlib.Core.Bool.{cond}
 use native.Mathlib.Nat.{mod-lt}
 use native.Mathlib.Omega.{arith}
 use lib.ListN.{length, take, drop, length-take, length-drop}
@@ -12,6 +12,7 @@ use Rattle.wire.specs.Reading.{Read, got, refused, andThen}
 use Rattle.wire.specs.Varints.{payload, varintOf, lowBits, varint64}
 use Rattle.wire.specs.Fields.{tag, VARINT, I64, LEN, I32, isTag, tagOf, bytesOf, delimitedOf, skipOf, fieldOf, fieldsOf, messageOf}
 use Rattle.wire.specs.State.{HllState, State, emptyState, bytesOrNone, isHllNumber, withHllNumber, isHllBytes, withHllBytes, hllNumberOf, hllBytesOf, otherOf, hllField, readHll, isNumber, withNumber, withHll, numberOf, nestedOf, outerField, readState}
+use Rattle.wire.proofs.BoolLaws.{whichever}
 
 -- Where a value was read, it has a property and no more than n bytes are left; a refusal has a number above 0.
 abbrev Reads : {A : Type 0} → (A → Type 0) → ℕ → Read A → Type 0
@@ -26,20 +27,12 @@ reads-then : {A B : Type 0} (good : A → Type 0) (fine : B → Type 0) (n k : �
 reads-then good fine n k (got a l) next h f = f a l (h .0) (h .1)
 reads-then good fine n k (refused m) next h f = h
 
--- A choice, whichever it is.
-pick : {A : Type 0} (good : A → Type 0) (b : Bool) (x y : A) → good x → good y → good (cond b x y)
-pick good true x y f g = f
-pick good false x y f g = g
-
-either : {A : Type 0} (good : A → Type 0) (n : ℕ) (b : Bool) (x y : Read A) → Reads good n x → Reads good n y → Reads good n (cond b x y)
-either good n b x y f g = pick (Reads good n) b x y f g
-
 varint-reads : (k : ℕ) (l : List ℕ) → Reads Anything (length l) (varintOf k l)
 unfolding varintOf
 varint-reads zero l = omega arith
 varint-reads (suc k) [] = omega arith
 varint-reads (suc k) (b ∷ l) =
-    either Anything (length (b ∷ l)) (ltb b 128) (got b l) (payload (b % 128) (varintOf k l)) (tt, omega arith)
+    whichever (Reads Anything (length (b ∷ l))) (ltb b 128) (got b l) (payload (b % 128) (varintOf k l)) (tt, omega arith)
     (more (varintOf k l) (varint-reads k l))
   where
     more : (r : Read ℕ) → Reads Anything (length l) r → Reads Anything (length (b ∷ l)) (payload (b % 128) r)
@@ -65,7 +58,7 @@ Within n d = length d ≤ n
 bytes-reads : (n k : ℕ) (l : List ℕ) → length l ≤ k → Reads (Within k) k (bytesOf n l)
 unfolding bytesOf
 bytes-reads n k l h =
-    either (Within k) k (leb n (length l)) (got (take n l) (drop n l)) (refused 3)
+    whichever (Reads (Within k) k) (leb n (length l)) (got (take n l) (drop n l)) (refused 3)
     ((let g : length (take n l) ≤ k = omega (arith, length-take n l) in g), (let g : length (drop n l) ≤ k = omega (arith, length-drop n l) in g)) (omega arith)
 
 delimited-reads : (l : List ℕ) → Reads (Within (length l)) (length l) (delimitedOf l)
@@ -78,7 +71,7 @@ tag-reads : (l : List ℕ) → Reads Anything (length l) (tagOf l)
 unfolding tagOf
 tag-reads l =
     reads-then Below Anything (length l) (length l) (varint64 l) (λ t rest. cond (isTag t) (got t rest) (refused 5)) (varint64-reads l)
-    (λ (t : ℕ) (rest : List ℕ) (x : t < 2 ^ 64) (h : length rest ≤ length l). either Anything (length l) (isTag t) (got t rest) (refused 5) (tt, h) (omega arith))
+    (λ (t : ℕ) (rest : List ℕ) (x : t < 2 ^ 64) (h : length rest ≤ length l). whichever (Reads Anything (length l)) (isTag t) (got t rest) (refused 5) (tt, h) (omega arith))
 
 skip-reads : (t : ℕ) (l : List ℕ) → Reads Anything (length l) (skipOf t l)
 unfolding skipOf
@@ -91,12 +84,12 @@ skip-reads t l =
     let four = cond (eqb (t % 8) I32) (fixed 4) none in
     let other = cond (eqb (t % 8) LEN) bytes four in
     let eight = cond (eqb (t % 8) I64) (fixed 8) other in
-    either Anything n (eqb (t % 8) VARINT) number eight
+    whichever (Reads Anything n) (eqb (t % 8) VARINT) number eight
     (reads-then Below Anything n n (varint64 l) (λ v rest. got tt rest) (varint64-reads l) (λ (v : ℕ) (rest : List ℕ) (x : v < 2 ^ 64) (h : length rest ≤ n). (tt, h)))
-    (either Anything n (eqb (t % 8) I64) (fixed 8) other (past 8)
-    (either Anything n (eqb (t % 8) LEN) bytes four
+    (whichever (Reads Anything n) (eqb (t % 8) I64) (fixed 8) other (past 8)
+    (whichever (Reads Anything n) (eqb (t % 8) LEN) bytes four
     (reads-then (Within n) Anything n n (delimitedOf l) (λ v rest. got tt rest) (delimited-reads l)
-    (λ (d rest : List ℕ) (x : length d ≤ n) (h : length rest ≤ n). (tt, h))) (either Anything n (eqb (t % 8) I32) (fixed 4) none (past 4) (omega arith))))
+    (λ (d rest : List ℕ) (x : length d ≤ n) (h : length rest ≤ n). (tt, h))) (whichever (Reads Anything n) (eqb (t % 8) I32) (fixed 4) none (past 4) (omega arith))))
   where
     past : (k : ℕ) → Reads Anything (length l) (andThen (bytesOf k l) (λ v rest. got (tt {0}) rest))
     past k =
@@ -131,13 +124,13 @@ record Bounded (n : ℕ) (h : HllState) : Type 0 where
 
 with-number : (n t v : ℕ) (h : HllState) → Bounded n h → Bounded n (withHllNumber t v h)
 with-number n t v h b =
-    pick (Bounded n) (eqb t (tag 2 VARINT)) _ _ (record { list = b .list; sparse = b .sparse; size = low v })
-    (pick (Bounded n) (eqb t (tag 3 VARINT)) _ _ (record { list = b .list; sparse = b .sparse; size = b .size })
+    whichever (Bounded n) (eqb t (tag 2 VARINT)) _ _ (record { list = b .list; sparse = b .sparse; size = low v })
+    (whichever (Bounded n) (eqb t (tag 3 VARINT)) _ _ (record { list = b .list; sparse = b .sparse; size = b .size })
     (record { list = b .list; sparse = low v; size = b .size }))
 
 with-bytes : (n t : ℕ) (d : List ℕ) (h : HllState) → length d ≤ n → Bounded n h → Bounded n (withHllBytes t d h)
 with-bytes n t d h e b =
-    pick (Bounded n) (eqb t (tag 5 LEN)) _ _ (record { list = b .list; sparse = b .sparse; size = b .size })
+    whichever (Bounded n) (eqb t (tag 5 LEN)) _ _ (record { list = b .list; sparse = b .sparse; size = b .size })
     (record { list = e; sparse = b .sparse; size = b .size })
 
 other-keeps : {A : Type 0} (good : A → Type 0) (n t : ℕ) (l : List ℕ) (a : A) → length l ≤ n → good a → Reads good n (otherOf t l a)
@@ -148,10 +141,10 @@ other-keeps good n t l a h g =
 hll-keeps : (n t : ℕ) (l : List ℕ) (h : HllState) → length l ≤ n → Bounded n h → Reads (Bounded n) n (hllField t l h)
 unfolding hllField
 hll-keeps n t l h e b =
-    either (Bounded n) n (isHllNumber t) (hllNumberOf t l h) (cond (isHllBytes t) (hllBytesOf t l h) (otherOf t l h))
+    whichever (Reads (Bounded n) n) (isHllNumber t) (hllNumberOf t l h) (cond (isHllBytes t) (hllBytesOf t l h) (otherOf t l h))
     (reads-then Below (Bounded n) (length l) n (varint64 l) (λ v rest. got (withHllNumber t v h) rest) (varint64-reads l)
     (λ (v : ℕ) (rest : List ℕ) (x : v < 2 ^ 64) (i : length rest ≤ length l). (with-number n t v h b, (let j : length rest ≤ n = omega arith in j))))
-    (either (Bounded n) n (isHllBytes t) (hllBytesOf t l h) (otherOf t l h)
+    (whichever (Reads (Bounded n) n) (isHllBytes t) (hllBytesOf t l h) (otherOf t l h)
     (reads-then (Within (length l)) (Bounded n) (length l) n (delimitedOf l) (λ d rest. got (withHllBytes t d h) rest) (delimited-reads l)
     (λ (d rest : List ℕ) (x : length d ≤ length l) (i : length rest ≤ length l).
     (with-bytes n t d h (let j : length d ≤ n = omega arith in j) b, (let j : length rest ≤ n = omega arith in j)))) (other-keeps (Bounded n) n t l h e b))
@@ -164,18 +157,18 @@ record StateBounded (n : ℕ) (st : State) : Type 0 where
 
 with-outer : (n t v : ℕ) (st : State) → v < 2 ^ 64 → StateBounded n st → StateBounded n (withNumber t v st)
 with-outer n t v st h b =
-    pick (StateBounded n) (eqb t (tag 1 VARINT)) _ _ (record { nested = b .nested; count = b .count; kind = b .kind })
-    (pick (StateBounded n) (eqb t (tag 2 VARINT)) _ _ (record { nested = b .nested; count = h; kind = b .kind })
-    (pick (StateBounded n) (eqb t (tag 3 VARINT)) _ _ (record { nested = b .nested; count = b .count; kind = b .kind })
+    whichever (StateBounded n) (eqb t (tag 1 VARINT)) _ _ (record { nested = b .nested; count = b .count; kind = b .kind })
+    (whichever (StateBounded n) (eqb t (tag 2 VARINT)) _ _ (record { nested = b .nested; count = h; kind = b .kind })
+    (whichever (StateBounded n) (eqb t (tag 3 VARINT)) _ _ (record { nested = b .nested; count = b .count; kind = b .kind })
     (record { nested = b .nested; count = b .count; kind = low v })))
 
 outer-keeps : (n t : ℕ) (l : List ℕ) (st : State) → length l ≤ n → StateBounded n st → Reads (StateBounded n) n (outerField t l st)
 unfolding outerField readHll
 outer-keeps n t l st e b =
-    either (StateBounded n) n (isNumber t) (numberOf t l st) (cond (eqb t (tag 112 LEN)) (nestedOf l st) (otherOf t l st))
+    whichever (Reads (StateBounded n) n) (isNumber t) (numberOf t l st) (cond (eqb t (tag 112 LEN)) (nestedOf l st) (otherOf t l st))
     (reads-then Below (StateBounded n) (length l) n (varint64 l) (λ v rest. got (withNumber t v st) rest) (varint64-reads l)
     (λ (v : ℕ) (rest : List ℕ) (x : v < 2 ^ 64) (i : length rest ≤ length l). (with-outer n t v st x b, (let j : length rest ≤ n = omega arith in j))))
-    (either (StateBounded n) n (eqb t (tag 112 LEN)) (nestedOf l st) (otherOf t l st)
+    (whichever (Reads (StateBounded n) n) (eqb t (tag 112 LEN)) (nestedOf l st) (otherOf t l st)
     (reads-then (Within (length l)) (StateBounded n) (length l) n (delimitedOf l)
     (λ m rest. andThen (readHll m (st .hll)) (λ h nothing. got (withHll h st) rest)) (delimited-reads l)
     (λ (m rest : List ℕ) (x : length m ≤ length l) (i : length rest ≤ length l).

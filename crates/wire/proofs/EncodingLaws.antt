@@ -190,17 +190,15 @@ start-is st n = four _ _ _ _ refl
 
 -- ---- lengths
 
-pub number-length : (field v : ℕ) → length (numberField field v) ≡ length (varintBytes 10 (tag field VARINT)) + length (varintBytes 10 v)
-number-length field v = two-length (number-is field v)
+-- A tag and a number behind it have at most 10 bytes each.
+varints-le : {bytes : List ℕ} (t v : ℕ) → Two bytes (varintBytes 10 t) (varintBytes 10 v) → length bytes ≤ 20
+varints-le t v two = omega (arith, two-length two, len-le 10 t, len-le 10 v)
 
 pub number-le : (field v : ℕ) → length (numberField field v) ≤ 20
-number-le field v = omega (arith, number-length field v, len-le 10 (tag field VARINT), len-le 10 v)
-
-pub prefix-length : (field n : ℕ) → length (lengthPrefix field n) ≡ length (varintBytes 10 (tag field LEN)) + length (varintBytes 10 n)
-prefix-length field n = two-length (prefix-is field n)
+number-le field v = varints-le (tag field VARINT) v (number-is field v)
 
 pub prefix-le : (field n : ℕ) → length (lengthPrefix field n) ≤ 20
-prefix-le field n = omega (arith, prefix-length field n, len-le 10 (tag field LEN), len-le 10 n)
+prefix-le field n = varints-le (tag field LEN) n (prefix-is field n)
 
 pub int32-le : (omitted field v : ℕ) → length (int32Unless omitted field v) ≤ 20
 unfolding int32Unless
@@ -265,6 +263,10 @@ hll-is h = record { is = sym (append-assoc (hllNumbers h) (bytesField 5 (h .«da
 pub hll-length : (h : HllState) → length (hllBytes h) ≡ length (hllStart h) + length (bytesField 6 (h .sparseData))
 hll-length h = two-length (hll-is h)
 
+-- All of it that is not data has at most 100 bytes.
+pub hll-le : (h : HllState) → length (hllBytes h) ≤ 100 + (length (bytesOrNone (h .«data»)) + length (bytesOrNone (h .sparseData)))
+hll-le h = omega (arith, hll-length h, hll-start-length h, hll-numbers-le h, field-le 5 (h .«data»), field-le 6 (h .sparseData))
+
 pub encode-length : (st : State)
     → length (encodeOf st) ≡ length (outerNumbers st) + length (lengthPrefix 112 (length (hllBytes (st .hll)))) + length (hllBytes (st .hll))
 unfolding encodeOf bytesField
@@ -284,18 +286,7 @@ encode-ge st =
 
 -- All that is not data has at most 200 bytes.
 pub encode-le : (st : State) → length (encodeOf st) ≤ 200 + (length (bytesOrNone (st .hll .«data»)) + length (bytesOrNone (st .hll .sparseData)))
-encode-le st =
-    omega (
-      arith,
-      encode-length st,
-      outer-numbers-le st,
-      prefix-le 112 (length (hllBytes (st .hll))),
-      hll-length (st .hll),
-      hll-start-length (st .hll),
-      hll-numbers-le (st .hll),
-      field-le 5 (st .hll .«data»),
-      field-le 6 (st .hll .sparseData),
-    )
+encode-le st = omega (arith, encode-length st, outer-numbers-le st, prefix-le 112 (length (hllBytes (st .hll))), hll-le (st .hll))
 
 -- ---- a state, cut before its sparse data
 

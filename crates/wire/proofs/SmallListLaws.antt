@@ -18,7 +18,7 @@ use Rattle.wire.specs.Fields.{tag, VARINT, LEN}
 use Rattle.wire.specs.State.{HllState, State, emptyHll, emptyState, hllField, readHll, outerField, readState, ParsePost}
 use Rattle.wire.specs.Encoding.{numberField, signExtended, lengthPrefix, bytesField}
 use Rattle.wire.specs.Compact.{CompactPost}
-use Rattle.wire.specs.SmallList.{SmallStart, NestedTags, SmallNested, SmallNumbers, SmallNestedPost, smallFields}
+use Rattle.wire.specs.SmallList.{SmallStart, SmallNested, SmallNumbers, SmallNestedPost, smallFields}
 use Rattle.wire.proofs.VarintLaws.{bytes-last}
 use Rattle.wire.proofs.EncodingLaws.{signed-small}
 use Rattle.wire.proofs.FieldLaws.{Reads, reads-message, Leads, leads-reads, leads-int32}

@@ -157,7 +157,8 @@ fn put_prefix(out: &mut [u8], at: usize, field: u32, n: usize) -> usize
     put_varint(out, next, n as u64)
 }
 
-fn put_bytes(out: &mut [u8], at: usize, d: &[u8]) -> usize
+// For other writers too: the bytes of `d` at `at`.
+pub fn put_bytes(out: &mut [u8], at: usize, d: &[u8]) -> usize
     requires { ⌜ at + length (now d) ≤ length (now out) ⌝ }
     ensures { λ r. ⌜ PutPost (now (out .entry)) at (now (d .entry)) r (now (out .exit)) ⌝ }
 {

@@ -8,9 +8,9 @@ use lib.ListN.{length, take}
 use lib.Seq.{length-take-le}
 use Rattle.lists.specs.Lists.{allValid}
 use Rattle.lists.specs.Registers.{registerBytes, notZero}
+use Rattle.lists.proofs.MergeLaws.{valid-append}
 use Rattle.rollup.specs.Calls.{listRegisters}
 use Rattle.rollup.proofs.SparseLaws.{at-pair, of-pair, set-room}
-use Rattle.rollup.proofs.KeepsLaws.{valid-append}
 use Rattle.batch.proofs.ClosingLaws.{list-counted}
 use borrow.Author.Needs.{needs}
 use Rattle.batch.proofs.closing.list_not_zero.Statement.{statement}

@@ -1,12 +1,11 @@
 -- Nothing is said to be known.
-use mathlib.Core.Path.{_≡_, sym}
-use mathlib.Core.Bool.{true, false, true≢false}
 use borrow.Author.Needs.{needs}
+use Rattle.wire.proofs.BoolLaws.{never}
 use Rattle.rollup.proofs.adding.add_fitting.Statement.{statement}
 use Rattle.rollup.proofs.adding.add_fitting.Tie as tie
 
 add-knowing-requires : tie.Need-add-knowing-requires
-add-knowing-requires c κs = (search needs, λ (e : false ≡ true). absurd (true≢false (sym e)))
+add-knowing-requires c κs = (search needs, never)
 
 same-length : tie.Need-same-length
 same-length c = search needs

@@ -1,9 +1,10 @@
 -- Each test is one part of the definition, and the last answers for all where the others were passed.
-use mathlib.Core.Path.{ap, _∙_}
+use mathlib.Core.Path.{sym, ap, _∙_}
+use mathlib.Core.Bool.{true≢false}
 use Prim.Native.Nat.{ℕ}
 use lib.Dec.{leb}
 use Rattle.wire.proofs.BoolLaws.{said-yes, said-no}
-use Rattle.rollup.proofs.FitLaws.{Lists, lists-yes, lists-no, valid-by, never}
+use Rattle.rollup.proofs.FitLaws.{Lists, lists-yes, lists-no, valid-by}
 use borrow.Author.Needs.{needs}
 use Rattle.rollup.proofs.fitting.lists_fit.Statement.{statement}
 use Rattle.rollup.proofs.fitting.lists_fit.Tie as tie
@@ -19,7 +20,7 @@ returns c =
     let o = c .before .before .before .before .before in
     lists-no (o .args .a) (o .args .kept .now) (o .args .waiting .now)
     (λ (x : Lists (o .args .a) (o .args .kept .now) (o .args .waiting .now)).
-    never _ (x .waiting-valid) (said-no (valid-by (o .args .waiting .now) (c .before .before .new .ensures) (c .before .all-valid .ensures)) (c .if1 .taken)))
+    true≢false (sym (x .waiting-valid) ∙ said-no (valid-by (o .args .waiting .now) (c .before .before .new .ensures) (c .before .all-valid .ensures)) (c .if1 .taken)))
 
 is-ascending-requires : tie.Need-is-ascending-requires
 is-ascending-requires c κs = search needs
@@ -29,7 +30,7 @@ returns-2 c =
     let o = c .before .before .before .before .before .before .before in
     lists-no (o .args .a) (o .args .kept .now) (o .args .waiting .now)
     (λ (x : Lists (o .args .a) (o .args .kept .now) (o .args .waiting .now)).
-    never _ (x .order) (said-no (c .before .is-ascending .ensures) (c .if2 .taken)))
+    true≢false (sym (x .order) ∙ said-no (c .before .is-ascending .ensures) (c .if2 .taken)))
 
 all-valid-ascending-requires : tie.Need-all-valid-ascending-requires
 all-valid-ascending-requires c κs = (c .before .before .before .before .new .ensures .fits, said-yes (c .before .is-ascending .ensures) (c .if2 .left))
@@ -39,7 +40,7 @@ returns-3 c =
     let o = c .before .before .before .before .before .before .before .before .before in
     lists-no (o .args .a) (o .args .kept .now) (o .args .waiting .now)
     (λ (x : Lists (o .args .a) (o .args .kept .now) (o .args .waiting .now)).
-    never _ (x .kept-valid) (said-no (valid-by (o .args .kept .now) (c .before .before .before .before .before .before .new .ensures) (c .before .all-valid-ascending .ensures)) (c .if3 .taken)))
+    true≢false (sym (x .kept-valid) ∙ said-no (valid-by (o .args .kept .now) (c .before .before .before .before .before .before .new .ensures) (c .before .all-valid-ascending .ensures)) (c .if3 .taken)))
 
 written-len-requires : tie.Need-written-len-requires
 written-len-requires c κs = said-yes (c .before .before .before .is-ascending .ensures) (c .before .before .if2 .left)

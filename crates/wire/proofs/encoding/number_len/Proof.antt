@@ -1,6 +1,6 @@
 -- The lengths of the tag and of the value, at most 10 each, add up to the field's.
 use native.Mathlib.Omega.{arith}
-use Rattle.wire.proofs.EncodingLaws.{number-length, number-le}
+use Rattle.wire.proofs.EncodingLaws.{two-length, number-is, number-le}
 use borrow.Author.Needs.{needs}
 use Rattle.wire.proofs.encoding.number_len.Statement.{statement}
 use Rattle.wire.proofs.encoding.number_len.Tie as tie
@@ -18,10 +18,10 @@ varint-len-64-requires-2 : tie.Need-varint-len-64-requires-2
 varint-len-64-requires-2 c κs = search needs
 
 add-result : tie.Need-add-result
-add-result c = let o = c .before .before in omega (arith, c .before .varint-len-64 .ensures, c .varint-len-642 .ensures, number-length (o .args .field) (o .args .v), number-le (o .args .field) (o .args .v))
+add-result c = let o = c .before .before in omega (arith, c .before .varint-len-64 .ensures, c .varint-len-642 .ensures, two-length (number-is (o .args .field) (o .args .v)), number-le (o .args .field) (o .args .v))
 
 returns : tie.Need-returns
-returns c = let o = c .before .before in omega (arith, c .before .varint-len-64 .ensures, c .varint-len-642 .ensures, number-length (o .args .field) (o .args .v))
+returns c = let o = c .before .before in omega (arith, c .before .varint-len-64 .ensures, c .varint-len-642 .ensures, two-length (number-is (o .args .field) (o .args .v)))
 
 pub number-len-spec : {M : Type 1} → statement M
 number-len-spec =
