@@ -564,8 +564,6 @@ pub encode-more : (n v : ℕ) (l : List ℕ) → encodeFrom n (v ∷ l) ≡ vari
 unfolding encodeFrom
 encode-more n v l = refl
 
--- One value more.
-
 pub length-encode-from : (n : ℕ) (l : List ℕ) → length (encodeFrom n l) ≡ writtenFrom n l
 unfolding encodeFrom writtenFrom
 length-encode-from n [] = refl

@@ -25,13 +25,13 @@ use Rattle.rollup.specs.Adding.{After, unchanged, settle, waits, listAft
 use Rattle.rollup.specs.Calls.{stateIn, valuesIn}
 use Rattle.rollup.specs.Fitting.{rangesFit}
 use Rattle.rollup.specs.SparsePaths.{KnownDistinct}
-use Rattle.rollup.specs.Knowing.{listDistinct, keptDistinct, listStill, stillDistinct}
+use Rattle.rollup.specs.Knowing.{listDistinct, keptDistinct, lookedAt, listStill, stillDistinct}
 use Rattle.rollup.proofs.SparseLaws.{at-pair}
 use Rattle.rollup.proofs.WaysLaws.{settle-ways, list-ways, sparse-ways}
 use Rattle.rollup.proofs.ViewLaws.{IsRefused, IsAccepted, add-view}
 
 -- A list that was looked at.
-pub kept-known : (f : Form) (a : Accumulator) (sparse : List ℕ) → KnownDistinct (keptDistinct f a sparse) (a .precision) (a .«sparse_precision») (take (a .«sparse_len») sparse)
+kept-known : (f : Form) (a : Accumulator) (sparse : List ℕ) → KnownDistinct (keptDistinct f a sparse) (a .precision) (a .«sparse_precision») (take (a .«sparse_len») sparse)
 kept-known Unstarted a sparse e = never e
 kept-known Sparse a sparse e =
     both-true (rangesFit (a .precision) (a .«sparse_precision») && leb (a .«sparse_len») (length sparse))
@@ -75,9 +75,30 @@ module _ (before after : ℕ) (known : Bool) where
   pub all-merged : after ≡ 0 → (before ≡ 0 → ⊥) → true ≡ listStill Sparse before after known
   all-merged h e = sym (ap₂ (λ (b c : Bool). cond (b && not c) true known) (eq-eqb after 0 h) (ne-eqb before 0 e))
 
-pub by-form : (before after : Accumulator) (sparse : List ℕ) (known : Bool) (f g : Form) → f ≡ g → (r : Bool) → r ≡ stillDistinct g before after sparse known
-    → r ≡ stillDistinct f before after sparse known
-by-form before after sparse known f g e r h = h ∙ ap (λ (x : Form). stillDistinct x before after sparse known) (sym e)
+pub by-form : (before after : Accumulator) (known : Bool) (f g : Form) → f ≡ g → (r : Bool) → r ≡ stillDistinct g before after known
+    → r ≡ stillDistinct f before after known
+by-form before after known f g e r h = h ∙ ap (λ (x : Form). stillDistinct x before after known) (sym e)
+
+-- ---- before a state
+
+module _ (a : Accumulator) (sparse : List ℕ) (n : ℕ) where
+  abbrev kept : Bool
+  kept = keptDistinct (a .form) a sparse
+
+  pub look-long : 256 < n → false ≡ lookedAt a sparse n false
+  look-long h = sym (ap (λ (b : Bool). b && eqb (a .«pending_len») 0 && kept) (lt-leb n 256 h))
+
+  pub look-waiting : n ≤ 256 → (a .«pending_len» ≡ 0 → ⊥) → false ≡ lookedAt a sparse n false
+  look-waiting h w = sym (ap₂ (λ (b c : Bool). b && c && kept) (le-leb n 256 h) (ne-eqb (a .«pending_len») 0 w))
+
+  pub look-kept : n ≤ 256 → a .«pending_len» ≡ 0 → (r : Bool) → r ≡ kept → r ≡ lookedAt a sparse n false
+  look-kept h w r e = e ∙ sym (ap₂ (λ (b c : Bool). b && c && kept) (le-leb n 256 h) (eq-eqb (a .«pending_len») 0 w))
+
+  pub look-known : (known : Bool) → KnownDistinct known (a .precision) (a .«sparse_precision») (take (a .«sparse_len») sparse)
+      → KnownDistinct (lookedAt a sparse n known) (a .precision) (a .«sparse_precision») (take (a .«sparse_len») sparse)
+  look-known true is = is
+  look-known false is = λ (e : leb n 256 && eqb (a .«pending_len») 0 && kept ≡ true).
+      kept-known (a .form) a sparse (both-true (leb n 256 && eqb (a .«pending_len») 0) kept e .1)
 
 -- ---- from one call to the next
 
@@ -144,10 +165,10 @@ module _ (a : Accumulator) (m : Mem) (known : Bool) (is : KnownDistinct known (a
         (still-sparse (stateIn bytes) (valuesIn (stateIn bytes))))
         (add-view a m room bytes r n fit post)
 
-    pub still-known : KnownDistinct (stillDistinct (a .form) a (r .head) (n .sparse) known) (r .head .precision) (r .head .«sparse_precision») (keptOf (r .head) n)
+    pub still-known : KnownDistinct (stillDistinct (a .form) a (r .head) known) (r .head .precision) (r .head .«sparse_precision») (keptOf (r .head) n)
     still-known = of-form (a .form) refl
       where
-        of-form : (f : Form) → a .form ≡ f → KnownDistinct (stillDistinct f a (r .head) (n .sparse) known) (r .head .precision) (r .head .«sparse_precision») (keptOf (r .head) n)
-        of-form Unstarted e = kept-known (r .head .form) (r .head) (n .sparse)
+        of-form : (f : Form) → a .form ≡ f → KnownDistinct (stillDistinct f a (r .head) known) (r .head .precision) (r .head .«sparse_precision») (keptOf (r .head) n)
+        of-form Unstarted e = never
         of-form Sparse e = still-list-form e
         of-form Dense e = never

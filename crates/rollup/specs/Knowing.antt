@@ -23,6 +23,10 @@ keptDistinct Unstarted a sparse = false
 keptDistinct Sparse a sparse = listDistinct a sparse
 keptDistinct Dense a sparse = false
 
+-- Before a state of n bytes: where nothing is known the list is looked at if the state is short and no values wait.
+abbrev pub lookedAt : Accumulator → List ℕ → ℕ → Bool → Bool
+lookedAt a sparse n known = cond known true (leb n 256 && eqb (a .«pending_len») 0 && keptDistinct (a .form) a sparse)
+
 -- After a call at a list roll-up, by the form that it left and how many values waited before and after: where values waited and none do, all were merged; else
 -- what was known stays so.
 abbrev pub listStill : Form → ℕ → ℕ → Bool → Bool
@@ -30,8 +34,8 @@ listStill Unstarted before after known = false
 listStill Sparse before after known = cond (eqb after 0 && not (eqb before 0)) true known
 listStill Dense before after known = false
 
--- After any call. The list of the first state is looked at.
-abbrev pub stillDistinct : Form → Accumulator → Accumulator → List ℕ → Bool → Bool
-stillDistinct Unstarted before after sparse known = keptDistinct (after .form) after sparse
-stillDistinct Sparse before after sparse known = listStill (after .form) (before .«pending_len») (after .«pending_len») known
-stillDistinct Dense before after sparse known = false
+-- After any call. Of the list of a first state nothing is known.
+abbrev pub stillDistinct : Form → Accumulator → Accumulator → Bool → Bool
+stillDistinct Unstarted before after known = false
+stillDistinct Sparse before after known = listStill (after .form) (before .«pending_len») (after .«pending_len») known
+stillDistinct Dense before after known = false
