@@ -14,10 +14,7 @@ use Rattle.rollup.specs.declared.adding.Added.{Added}
 use Rattle.rollup.specs.Accumulator.{Mem, fits}
 use Rattle.rollup.specs.Adding.{Free, AddPost}
 use Rattle.rollup.specs.Calls.{Call, added, Run, adding}
-use Rattle.rollup.specs.SparsePaths.{KnownDistinct}
-use Rattle.rollup.specs.Knowing.{keptDistinct}
 use Rattle.rollup.proofs.ViewLaws.{add-keeps}
-use Rattle.rollup.proofs.KnowingLaws.{kept-known}
 use Rattle.batch.specs.Batch.{addedAll}
 use Rattle.batch.proofs.ChainLaws.{added-last, same-cells}
 use Rattle.capi.specs.Heads.{isHead, headIn, withHead}
@@ -74,10 +71,10 @@ pub record Folding (a : Accumulator) (m : Mem) (room : ℕ) (bytes ends before :
   pub none-yet : i ≡ 0 → (h ≡ a) × (n ≡ m) × (start ≡ 0)
   pub one-only : i ≡ 1 → AddPost a m room (between bytes 0 (getD ends 0 0)) (record { answer = getD answers 0 0; head = h }) n
 
-pub fold-start : (a : Accumulator) (m : Mem) (room : ℕ) (bytes ends before : List ℕ) (known : Bool) → FoldPre a m ends before known
+pub fold-start : (a : Accumulator) (m : Mem) (room : ℕ) (bytes ends before : List ℕ) → FoldPre a m ends before
     → Folding a m room bytes ends before 0 0 a m before
 unfolding addedAll
-fold-start a m room bytes ends before known pre =
+fold-start a m room bytes ends before pre =
     record {
       done = [];
       count = refl;
@@ -181,9 +178,9 @@ module _ (a : Accumulator) (m : Mem) (room : ℕ) (bytes ends before : List ℕ)
 
 -- ---- one state
 
--- One cell for its answer; of the list nothing need be known.
-pub one-pre : (a : Accumulator) (m : Mem) (end cell : ℕ) → fits a m ≡ true → FoldPre a m (end ∷ []) (cell ∷ []) false
-one-pre a m end cell f = record { fit = f; room = omega arith; distinct = λ (e : false ≡ true). absurd (true≢false (sym e)) }
+-- One cell for its answer.
+pub one-pre : (a : Accumulator) (m : Mem) (end cell : ℕ) → fits a m ≡ true → FoldPre a m (end ∷ []) (cell ∷ [])
+one-pre a m end cell f = record { fit = f; room = omega arith }
 
 pub one-state : (a : Accumulator) (m : Mem) (room : ℕ) (bytes answers : List ℕ) (r : Accumulator) (n : Mem) (left : List ℕ)
     → LoopPost a m room bytes (length bytes ∷ []) answers r n left → AddPost a m room bytes (record { answer = getD left 0 0; head = r }) n
@@ -222,16 +219,8 @@ module _ (row : List ℕ) (m : Mem) (room : ℕ) (bytes ends answers : List ℕ)
         ∙ sym (take-all (length answers) ends (let g : length ends ≤ length answers = omega arith in g)))
         (λ (h : length answers ≤ length ends). ap (λ (i : ℕ). take i ends) (e ∙ min-eq-right h)) (side (length ends) (length answers))
 
-    pub fold-pre : (k : ℕ) (known : Bool) → fits a m ≡ true → k ≡ min (length ends) (length answers) → known ≡ keptDistinct (a .form) a (m .sparse)
-        → FoldPre a m (take k ends) answers known
-    fold-pre k known f e d =
-        record {
-          fit = f;
-          room = omega (arith, length-take k ends, e, min-le-right (length ends) (length answers));
-          distinct =
-              subst (λ (b : Bool). KnownDistinct b (a .precision) (a .«sparse_precision») (take (a .«sparse_len») (m .sparse))) (sym d)
-              (kept-known (a .form) a (m .sparse));
-        }
+    pub fold-pre : (k : ℕ) → fits a m ≡ true → k ≡ min (length ends) (length answers) → FoldPre a m (take k ends) answers
+    fold-pre k f e = record { fit = f; room = omega (arith, length-take k ends, e, min-le-right (length ends) (length answers)) }
 
     pub fold-found : (k : ℕ) (h : Accumulator) (n : Mem) (left after : List ℕ) → fits a m ≡ true → k ≡ min (length ends) (length answers)
         → LoopPost a m room bytes (take k ends) answers h n left → after ≡ withHead h row → FoldRowPost row m room bytes ends answers 0 after n left

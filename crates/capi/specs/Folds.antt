@@ -1,13 +1,12 @@
 -- Many states in one slice, with their ends: what `filmoed_fold` promises.
 use mathlib.Core.Path.{_≡_}
 use mathlib.Core.List.{List, [], _∷_}
-use mathlib.Core.Bool.{Bool, true, false, _&&_}
+use mathlib.Core.Bool.{true, false, _&&_}
 use Prim.Native.Nat.{ℕ, _-_, _≤_}
 use lib.ListN.{length, getD, take, drop}
 use Rattle.rollup.specs.declared.accumulator.Accumulator.{Accumulator}
 use Rattle.rollup.specs.Accumulator.{Mem, fits}
 use Rattle.rollup.specs.Adding.{Free, AddPost}
-use Rattle.rollup.specs.SparsePaths.{KnownDistinct}
 use Rattle.rollup.specs.Calls.{Call, Run}
 use Rattle.batch.specs.Batch.{addedAll}
 use Rattle.capi.specs.Heads.{isHead, headIn, withHead}
@@ -28,11 +27,10 @@ pub record FoldedPost (a : Accumulator) (m : Mem) (room : ℕ) (bytes ends answe
   pub cells : length left ≡ length answers
   pub free : Free m n
 
--- What the loop asks: a head that fits, a cell for each state, and, where `known` is true, a list that a merge can leave.
-pub record FoldPre (a : Accumulator) (m : Mem) (ends answers : List ℕ) (known : Bool) : Type 0 where
+-- What the loop asks: a head that fits, and a cell for each state.
+pub record FoldPre (a : Accumulator) (m : Mem) (ends answers : List ℕ) : Type 0 where
   pub fit : fits a m ≡ true
   pub room : length ends ≤ length answers
-  pub distinct : KnownDistinct known (a .precision) (a .«sparse_precision») (take (a .«sparse_len») (m .sparse))
 
 -- What it promises: the above, and of one state what `add` promises.
 pub record LoopPost (a : Accumulator) (m : Mem) (room : ℕ) (bytes ends answers : List ℕ) (r : Accumulator) (n : Mem) (left : List ℕ) : Type 0 where

@@ -11,7 +11,6 @@ use crate::heads;
 use crate::heads::Head;
 use rollup::accumulator::Accumulator;
 use rollup::fitting;
-use rollup::knowing;
 use rollup::writing;
 
 // Puts a fresh head into the row; 1 where it has no ten cells.
@@ -107,7 +106,6 @@ pub extern "C" fn filmoed_fold(
     if !fitting::fits(a, &registers[..], &sparse[..], &pending[..]) {
         return 1;
     }
-    let known = knowing::kept_distinct(a, &sparse[..]);
     let k = smaller(ends.len(), answers.len());
     let r = folding::fold_states(
         a,
@@ -118,7 +116,6 @@ pub extern "C" fn filmoed_fold(
         states,
         &ends[..k],
         answers,
-        known,
     );
     heads::put_head(head, r);
     0

@@ -28,7 +28,7 @@ fn between(bytes: &[u8], start: usize, end: usize) -> &[u8]
     &bytes[start..end]
 }
 
-// Adds the states between the ends, and puts each answer into its cell. `known` says that the list is known to be one that a merge can leave.
+// Adds the states between the ends, and puts each answer into its cell.
 pub(crate) fn fold_states(
     a: Accumulator,
     registers: &mut [u8],
@@ -38,27 +38,20 @@ pub(crate) fn fold_states(
     bytes: &[u8],
     ends: &[u64],
     answers: &mut [u8],
-    known: bool,
 ) -> Accumulator
-    requires { ⌜ FoldPre a (mem (now registers) (now sparse) (now pending)) (now ends) (now answers) known ⌝ }
+    requires { ⌜ FoldPre a (mem (now registers) (now sparse) (now pending)) (now ends) (now answers) ⌝ }
     ensures { λ r. ⌜ LoopPost a (mem (now (registers .entry)) (now (sparse .entry)) (now (pending .entry))) (length (now (scratch .entry))) (now (bytes .entry)) (now (ends .entry)) (now (answers .entry)) r (mem (now (registers .exit)) (now (sparse .exit)) (now (pending .exit))) (now (answers .exit)) ⌝ }
 {
     let mut head = a;
-    let mut distinct = known;
+    let mut known = false;
     let mut start: usize = 0;
     let mut i: usize = 0;
     while i < ends.len() {
         let end = ends[i] as usize;
-        let r = adding::add_knowing(
-            head,
-            registers,
-            sparse,
-            pending,
-            scratch,
-            between(bytes, start, end),
-            distinct,
-        );
-        distinct = knowing::still_distinct(head, r.head, &sparse[..], distinct);
+        let state = between(bytes, start, end);
+        let distinct = knowing::look(head, &sparse[..], state.len(), known);
+        let r = adding::add_knowing(head, registers, sparse, pending, scratch, state, distinct);
+        known = knowing::still_distinct(head, r.head, distinct);
         head = r.head;
         answers[i] = r.answer;
         start = end;
@@ -92,7 +85,6 @@ pub(crate) fn add_one(
         state,
         &ends,
         &mut answers,
-        false,
     );
     Added {
         answer: answers[0],

@@ -5,27 +5,28 @@ use mathlib.Core.Bool.{Bool}
 use native.Mathlib.Omega.{arith}
 use lib.ListN.{length, getD, take, length-set}
 use denote.Ref.{now}
+use Rattle.wire.proofs.BoolLaws.{never}
 use Rattle.rollup.specs.Accumulator.{Mem, mem}
 use Rattle.rollup.specs.Adding.{AddPost}
 use Rattle.rollup.specs.SparsePaths.{KnownDistinct}
-use Rattle.rollup.proofs.KnowingLaws.{still-known}
+use Rattle.rollup.proofs.KnowingLaws.{look-known, still-known}
 use Rattle.capi.proofs.FoldLaws.{Folding, fold-start, fold-turn, fold-end}
 use borrow.Author.Needs.{needs}
 use Rattle.capi.proofs.folding.fold_states.Statement.{statement}
 use Rattle.capi.proofs.folding.fold_states.Tie as tie
 
 abbrev Inv-loop : tie.InvT-loop
-Inv-loop registers₀ sparse₀ pending₀ scratch₀ bytes ends answers₀ known head₀ distinct₀ start₀ i₀ registers sparse pending scratch answers head distinct start i =
+Inv-loop registers₀ sparse₀ pending₀ scratch₀ bytes ends answers₀ head₀ known₀ start₀ i₀ registers sparse pending scratch answers head known start i =
     Folding head₀ (mem registers₀ sparse₀ pending₀) (length scratch₀) bytes ends answers₀ start i head (mem registers sparse pending) answers
     × (length registers ≡ length registers₀)
     × (length sparse ≡ length sparse₀)
     × (length pending ≡ length pending₀)
     × (length scratch ≡ length scratch₀)
     × (length answers ≡ length answers₀)
-    × KnownDistinct distinct (head .precision) (head .«sparse_precision») (take (head .«sparse_len») sparse)
+    × KnownDistinct known (head .precision) (head .«sparse_precision») (take (head .«sparse_len») sparse)
 
 abbrev μ-loop : tie.MeasureT-loop
-μ-loop registers₀ sparse₀ pending₀ scratch₀ bytes ends answers₀ known head₀ distinct₀ start₀ i₀ registers sparse pending scratch answers head distinct start i =
+μ-loop registers₀ sparse₀ pending₀ scratch₀ bytes ends answers₀ head₀ known₀ start₀ i₀ registers sparse pending scratch answers head known start i =
     length ends - i
 
 -- The memory as the call gets it.
@@ -35,7 +36,7 @@ m o = mem (now (o .args .registers)) (now (o .args .sparse)) (now (o .args .pend
 loop-holds : tie.Need-loop-holds Inv-loop μ-loop
 loop-holds c =
     let o = c .before .before .before .before .before .before .before in
-    (fold-start (o .args .a) (m o) (length (now (o .args .scratch))) (now (o .args .bytes)) (now (o .args .ends)) (now (o .args .answers)) (o .args .known) (o .pre), refl, refl, refl, refl, refl, o .pre .distinct)
+    (fold-start (o .args .a) (m o) (length (now (o .args .scratch))) (now (o .args .bytes)) (now (o .args .ends)) (now (o .args .answers)) (o .pre), refl, refl, refl, refl, refl, never)
 
 mul-end : tie.Need-mul-end Inv-loop μ-loop
 mul-end c = search needs
@@ -46,8 +47,16 @@ shared-slice-read-end c = search needs
 between-requires : tie.Need-between-requires Inv-loop μ-loop
 between-requires c κs = search needs
 
+look-requires : tie.Need-look-requires Inv-loop μ-loop
+look-requires c κs = search needs
+
 add-knowing-requires : tie.Need-add-knowing-requires Inv-loop μ-loop
-add-knowing-requires c κs = (c .before .before .before .before .before .before .before .loop .inv .0 .fit, c .before .before .before .before .before .before .before .loop .inv .6)
+add-knowing-requires c κs =
+    let l = c .before .before .before .before .before .before .before .before .before .loop in (
+      l .inv .0 .fit,
+      subst (λ (b : Bool). KnownDistinct b (l .head .precision) (l .head .«sparse_precision») (take (l .head .«sparse_len») (l .sparse))) (sym (c .before .before .before .before .look .ensures))
+          (look-known (l .head) (l .sparse) (length (now (c .before .before .before .before .before .before .between .result))) (l .known) (l .inv .6)),
+    )
 
 still-distinct-requires : tie.Need-still-distinct-requires Inv-loop μ-loop
 still-distinct-requires c κs = search needs
@@ -56,18 +65,23 @@ slice-write-answers : tie.Need-slice-write-answers Inv-loop μ-loop
 slice-write-answers c = search needs
 
 add-i : tie.Need-add-i Inv-loop μ-loop
-add-i c = omega (arith, c .before .before .before .before .before .before .before .before .before .before .before .before .before .before .before .before .before .before .loop-test .taken, c .before .before .before .before .before .before .before .before .before .before .before .before .before .before .before .before .before .before .before .before .before .before .before .before .before .before .before .good)
+add-i c = omega (arith, c .before .before .before .before .before .before .before .before .before .before .before .before .before .before .before .before .before .before .before .loop-test .taken, c .before .before .before .before .before .before .before .before .before .before .before .before .before .before .before .before .before .before .before .before .before .before .before .before .before .before .before .before .good)
 
 loop-less : tie.Need-loop-less Inv-loop μ-loop
 loop-less c = search needs
 
 loop-again : tie.Need-loop-again Inv-loop μ-loop
 loop-again c =
-    let o = c .before .before .before .before .before .before .before .before .before .before .before .before .before .before .before .before .before .before .before .before .before .before .before .before .before .before .before in
-    let before = mem (c .before .before .before .before .before .before .before .before .before .before .before .before .before .before .before .before .before .before .before .loop .registers) (c .before .before .before .before .before .before .before .before .before .before .before .before .before .before .before .before .before .before .before .loop .sparse) (c .before .before .before .before .before .before .before .before .before .before .before .before .before .before .before .before .before .before .before .loop .pending) in
-    let after = mem (c .before .before .before .before .before .before .before .before .before .before .before .add-knowing .last .1 .0) (c .before .before .before .before .before .before .before .before .before .before .before .add-knowing .last .1 .1 .0) (c .before .before .before .before .before .before .before .before .before .before .before .add-knowing .last .1 .1 .1 .0) in
-    let post = subst (λ (k : ℕ). AddPost (c .before .before .before .before .before .before .before .before .before .before .before .before .before .before .before .before .before .before .before .loop .head) before k (now (c .before .before .before .before .before .before .before .before .before .before .before .before .between .result)) (c .before .before .before .before .before .before .before .before .before .before .before .add-knowing .result) after) (c .before .before .before .before .before .before .before .before .before .before .before .before .before .before .before .before .before .before .before .loop .inv .4) (c .before .before .before .before .before .before .before .before .before .before .before .add-knowing .ensures) in
-    (fold-turn (o .args .a) (m o) (length (now (o .args .scratch))) (now (o .args .bytes)) (now (o .args .ends)) (now (o .args .answers)) (c .before .before .before .before .before .before .before .before .before .before .before .before .before .before .before .before .before .before .before .loop .start) (c .before .before .before .before .before .before .before .before .before .before .before .before .before .before .before .before .before .before .before .loop .i) (c .before .before .before .before .before .before .before .before .before .before .before .before .before .before .before .before .before .before .before .loop .head) before (c .before .before .before .before .before .before .before .before .before .before .before .before .before .before .before .before .before .before .before .loop .answers) (c .before .before .before .before .before .before .before .before .before .before .before .before .before .before .before .before .before .before .before .loop .inv .0) (getD (now (o .args .ends)) (c .before .before .before .before .before .before .before .before .before .before .before .before .before .before .before .before .before .before .before .loop .i) 0) (now (c .before .before .before .before .before .before .before .before .before .before .before .before .between .result)) (c .before .before .before .before .before .before .before .before .before .before .before .add-knowing .result) after (c .before .before .before .before .before .before .before .before .before .before .before .before .before .before .before .before .before .before .loop-test .taken) refl (c .before .before .before .before .before .before .before .before .before .before .before .before .between .ensures) post, c .before .before .before .before .before .before .before .before .before .before .before .add-knowing .kept .1 .0 ∙ c .before .before .before .before .before .before .before .before .before .before .before .before .before .before .before .before .before .before .before .loop .inv .1, c .before .before .before .before .before .before .before .before .before .before .before .add-knowing .kept .1 .1 .0 ∙ c .before .before .before .before .before .before .before .before .before .before .before .before .before .before .before .before .before .before .before .loop .inv .2, c .before .before .before .before .before .before .before .before .before .before .before .add-knowing .kept .1 .1 .1 .0 ∙ c .before .before .before .before .before .before .before .before .before .before .before .before .before .before .before .before .before .before .before .loop .inv .3, c .before .before .before .before .before .before .before .before .before .before .before .add-knowing .kept .1 .1 .1 .1 .0 ∙ c .before .before .before .before .before .before .before .before .before .before .before .before .before .before .before .before .before .before .before .loop .inv .4, length-set (c .before .before .before .before .before .before .before .before .before .before .before .before .before .before .before .before .before .before .before .loop .answers) (c .before .before .before .before .before .before .before .before .before .before .before .before .before .before .before .before .before .before .before .loop .i) (c .before .before .before .before .before .before .before .before .before .before .before .add-knowing .result .answer) ∙ c .before .before .before .before .before .before .before .before .before .before .before .before .before .before .before .before .before .before .before .loop .inv .5, subst (λ (b : Bool). KnownDistinct b (c .before .before .before .before .before .before .before .before .before .before .before .add-knowing .result .head .precision) (c .before .before .before .before .before .before .before .before .before .before .before .add-knowing .result .head .«sparse_precision») (take (c .before .before .before .before .before .before .before .before .before .before .before .add-knowing .result .head .«sparse_len») (c .before .before .before .before .before .before .before .before .before .before .before .add-knowing .last .1 .1 .0))) (sym (c .before .still-distinct .ensures)) (still-known (c .before .before .before .before .before .before .before .before .before .before .before .before .before .before .before .before .before .before .before .loop .head) before (c .before .before .before .before .before .before .before .before .before .before .before .before .before .before .before .before .before .before .before .loop .distinct) (c .before .before .before .before .before .before .before .before .before .before .before .before .before .before .before .before .before .before .before .loop .inv .6) (length (now (o .args .scratch))) (now (c .before .before .before .before .before .before .before .before .before .before .before .before .between .result)) (c .before .before .before .before .before .before .before .before .before .before .before .add-knowing .result) after (c .before .before .before .before .before .before .before .before .before .before .before .before .before .before .before .before .before .before .before .loop .inv .0 .fit) post))
+    let o = c .before .before .before .before .before .before .before .before .before .before .before .before .before .before .before .before .before .before .before .before .before .before .before .before .before .before .before .before in
+    let l = c .before .before .before .before .before .before .before .before .before .before .before .before .before .before .before .before .before .before .before .before .loop in
+    let r = c .before .before .before .before .before .before .before .before .before .before .add-knowing .result in
+    let state = now (c .before .before .before .before .before .before .before .before .before .before .before .before .before .before .before .before .before .between .result) in
+    let before = mem (l .registers) (l .sparse) (l .pending) in
+    let after = mem (c .before .before .before .before .before .before .before .before .before .before .add-knowing .last .1 .0) (c .before .before .before .before .before .before .before .before .before .before .add-knowing .last .1 .1 .0) (c .before .before .before .before .before .before .before .before .before .before .add-knowing .last .1 .1 .1 .0) in
+    let post = subst (λ (k : ℕ). AddPost (l .head) before k state r after) (l .inv .4) (c .before .before .before .before .before .before .before .before .before .before .add-knowing .ensures) in
+    let distinct = subst (λ (b : Bool). KnownDistinct b (l .head .precision) (l .head .«sparse_precision») (take (l .head .«sparse_len») (l .sparse))) (sym (c .before .before .before .before .before .before .before .before .before .before .before .before .before .before .before .look .ensures))
+    (look-known (l .head) (l .sparse) (length (now (c .before .before .before .before .before .before .before .before .before .before .before .before .before .before .before .before .before .between .result))) (l .known) (l .inv .6)) in
+    (fold-turn (o .args .a) (m o) (length (now (o .args .scratch))) (now (o .args .bytes)) (now (o .args .ends)) (now (o .args .answers)) (l .start) (l .i) (l .head) before (l .answers) (l .inv .0) (getD (now (o .args .ends)) (l .i) 0) state r after (c .before .before .before .before .before .before .before .before .before .before .before .before .before .before .before .before .before .before .before .loop-test .taken) refl (c .before .before .before .before .before .before .before .before .before .before .before .before .before .before .before .before .before .between .ensures) post, c .before .before .before .before .before .before .before .before .before .before .add-knowing .kept .1 .0 ∙ l .inv .1, c .before .before .before .before .before .before .before .before .before .before .add-knowing .kept .1 .1 .0 ∙ l .inv .2, c .before .before .before .before .before .before .before .before .before .before .add-knowing .kept .1 .1 .1 .0 ∙ l .inv .3, c .before .before .before .before .before .before .before .before .before .before .add-knowing .kept .1 .1 .1 .1 .0 ∙ l .inv .4, length-set (l .answers) (l .i) (r .answer) ∙ l .inv .5, subst (λ (b : Bool). KnownDistinct b (r .head .precision) (r .head .«sparse_precision») (take (r .head .«sparse_len») (c .before .before .before .before .before .before .before .before .before .before .add-knowing .last .1 .1 .0))) (sym (c .before .still-distinct .ensures)) (still-known (l .head) before (c .before .before .before .before .before .before .before .before .before .before .before .before .before .before .before .look .result) distinct (length (now (o .args .scratch))) state r after (l .inv .0 .fit) post))
 
 same-length : tie.Need-same-length Inv-loop μ-loop
 same-length c = search needs
@@ -85,7 +99,10 @@ same-length-5 : tie.Need-same-length-5 Inv-loop μ-loop
 same-length-5 c = search needs
 
 returns : tie.Need-returns Inv-loop μ-loop
-returns c = let o = c .before .before .before .before .before .before .before .before .before in fold-end (o .args .a) (m o) (length (now (o .args .scratch))) (now (o .args .bytes)) (now (o .args .ends)) (now (o .args .answers)) (c .before .loop .start) (c .before .loop .i) (c .before .loop .head) (mem (c .before .loop .registers) (c .before .loop .sparse) (c .before .loop .pending)) (c .before .loop .answers) (c .before .loop .inv .0) (c .loop-test .left)
+returns c =
+    let o = c .before .before .before .before .before .before .before .before .before in
+    let l = c .before .loop in
+    fold-end (o .args .a) (m o) (length (now (o .args .scratch))) (now (o .args .bytes)) (now (o .args .ends)) (now (o .args .answers)) (l .start) (l .i) (l .head) (mem (l .registers) (l .sparse) (l .pending)) (l .answers) (l .inv .0) (c .loop-test .left)
 
 pub fold-states-spec : {M : Type 1} → statement M
 fold-states-spec =
@@ -97,6 +114,7 @@ fold-states-spec =
     mul-end
     shared-slice-read-end
     between-requires
+    look-requires
     add-knowing-requires
     still-distinct-requires
     slice-write-answers
