@@ -6,6 +6,7 @@ pub mod OrderLaws
 pub mod MergeLaws
 pub mod MergingLaws
 pub mod SortingLaws
+pub mod DigitLaws
 pub mod InsertLaws
 pub mod RankLaws
 pub mod RegisterLaws

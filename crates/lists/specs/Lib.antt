@@ -2,6 +2,7 @@
 pub mod Values
 pub mod Sorting
 pub mod Order
+pub mod Digits
 pub mod Lists
 pub mod Merging
 pub mod Registers
