@@ -1,7 +1,7 @@
 -- Laws of what is read: a position found, decimal numbers, byte strings.
 use mathlib.Core.Path.{_≡_, refl, sym, ap, ap₂, _∙_, subst}
 use mathlib.Core.List.{List, [], _∷_, _++_, append-nil}
-use mathlib.Core.Bool.{Bool, true, false, cond}
+use mathlib.Core.Bool.{Bool, true, false, cond, true≢false}
 use mathlib.Core.Option.{Option, none, some}
 use mathlib.Core.Logic.{_⊎_, inl, inr}
 use Prim.Native.Nat.{ℕ, _+_, _*_, _-_, _%_, _^_, _<_, _≤_}
@@ -19,7 +19,7 @@ use Rattle.cases.specs.declared.input.Bytes.{Bytes}
 use Rattle.cases.specs.declared.input.Bytes.the-variants.{Count}
 use Rattle.cases.specs.declared.input.Stream.{Stream}
 use Rattle.cases.specs.declared.input.Stream.the-variants.{All}
-use Rattle.cases.specs.Input.{ReadPost, StreamPost, BytesPost, upTo, digitOf, decimalFrom, decimalOf, below64, consTo, byteThen, hexOf}
+use Rattle.cases.specs.Input.{ReadPost, StreamPost, BytesPost, upTo, digitOf, decimalFrom, decimalOf, below64, consTo, byteThen, hexOf, onto}
 
 -- One of two numbers is the smaller.
 pub side : (a b : ℕ) → (a < b) ⊎ (b ≤ a)
@@ -102,10 +102,13 @@ decimal-large (b ∷ l) v h = go (ltb (digitOf b) 10) (decimal-large l (v * 10 +
 
 -- ---- byte strings
 
--- Bytes in front of a byte string.
-abbrev pub onto : List ℕ → Option (List ℕ) → Option (List ℕ)
-onto done none = none
-onto done (some l) = some (done ++ l)
+-- No byte string is one.
+abbrev isSome : {A : Type 0} → Option A → Bool
+isSome none = false
+isSome (some x) = true
+
+pub not-some : {A B : Type 0} {x : A} → none ≡ some x → B
+not-some e = absurd (true≢false (sym (ap isSome e)))
 
 pub onto-nothing : (r : Option (List ℕ)) → r ≡ onto [] r
 onto-nothing none = refl

@@ -3,7 +3,7 @@ use Prim.Native.Nat.{ℕ, zero, suc, _+_, _-_, _^_, _<_, _≤_}
 use native.Mathlib.Omega.{arith}
 use mathlib.Core.Path.{_≡_, refl, sym, ap, ap₂, _∙_, subst}
 use mathlib.Core.List.{List, [], _∷_, append-nil}
-use mathlib.Core.Bool.{Bool, true, false, true≢false, cond}
+use mathlib.Core.Bool.{Bool, true, false, cond}
 use mathlib.Core.Option.{Option, none, some}
 use lib.Dec.{ltb}
 use lib.ListN.{length, set, take, drop, getD, length-drop, drop-of-length-le}
@@ -16,9 +16,9 @@ use Rattle.cases.specs.declared.text.Value.{Value}
 use Rattle.cases.specs.declared.text.Value.the-variants.{Is, Other as ValueOther}
 use Rattle.cases.specs.declared.text.Listed.{Listed}
 use Rattle.cases.specs.declared.text.Listed.the-variants.{Count}
-use Rattle.cases.specs.Input.{upTo, decimalOf, below64, numberMeans}
+use Rattle.cases.specs.Input.{upTo, decimalOf, below64, numberMeans, onto}
 use Rattle.cases.specs.Text.{wordsFrom, wordOf, WordStart, below32, valueMeans, orZero, valueThen, valuesIn, listIn, ListedPost}
-use Rattle.cases.proofs.InputLaws.{onto, onto-nothing, onto-stored}
+use Rattle.cases.proofs.InputLaws.{not-some, onto-nothing, onto-stored}
 
 -- ---- counts
 
@@ -86,24 +86,20 @@ word-part line k start end w e =
 
 -- ---- numbers of 32 bits
 
-abbrev isSome : Option ℕ → Bool
-isSome none = false
-isSome (some v) = true
-
 same-number : (o : Option ℕ) (v : ℕ) → some v ≡ below64 o → some v ≡ o
-same-number none v e = absurd (true≢false (ap isSome e))
+same-number none v e = not-some (sym e)
 same-number (some w) v e = go (ltb w (2 ^ 64)) e
   where
     go : (t : Bool) → some v ≡ cond t (some w) none → some v ≡ some w
     go true e = e
-    go false e = absurd (true≢false (ap isSome e))
+    go false e = not-some (sym e)
 
 no-number : (o : Option ℕ) → none ≡ below64 o → none ≡ below32 o
 no-number none e = refl
 no-number (some w) e = go (ltb w (2 ^ 64)) refl e
   where
     go : (t : Bool) → ltb w (2 ^ 64) ≡ t → none ≡ cond t (some w) none → none ≡ below32 (some w)
-    go true e n = absurd (true≢false (sym (ap isSome n)))
+    go true e n = not-some n
     go false e n = rw (le-ltb w (2 ^ 32) (omega (arith, ltb-false w (2 ^ 64) e)))
 
 pub value-read : (o : Option ℕ) (r : Number) (v : ℕ) (x : Value)

@@ -1,6 +1,6 @@
 -- What reading cases finds.
 use mathlib.Core.Path.{_≡_}
-use mathlib.Core.List.{List, [], _∷_}
+use mathlib.Core.List.{List, [], _∷_, _++_}
 use mathlib.Core.Bool.{cond}
 use mathlib.Core.Option.{Option, none, some}
 use mathlib.Core.Logic.{_⊎_}
@@ -72,6 +72,11 @@ pub record NumberPost (word : List ℕ) (r : Number) : Type 0 where
 abbrev pub consTo : ℕ → Option (List ℕ) → Option (List ℕ)
 consTo x none = none
 consTo x (some l) = some (x ∷ l)
+
+-- Bytes in front of others.
+abbrev pub onto : List ℕ → Option (List ℕ) → Option (List ℕ)
+onto done none = none
+onto done (some l) = some (done ++ l)
 
 abbrev pub byteThen : ℕ → ℕ → Option (List ℕ) → Option (List ℕ)
 byteThen high low rest = cond (ltb high 16) (cond (ltb low 16) (consTo (high * 16 + low) rest) none) none

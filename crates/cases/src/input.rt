@@ -1,7 +1,10 @@
 // Reading cases: a stream into a buffer, then lines, words, numbers and byte strings.
 ghost use mathlib.Core.Path.{_≡_};
 ghost use Prim.Native.Nat.{_≤_};
+ghost use Rattle.io.specs.Counts.{Counts};
 ghost use Rattle.cases.specs.Input.{DigitPost, FindPost, NumberPost, BytesPost, ReadPost, StreamPost};
+use libc::STDERR_FILENO;
+use libc::STDIN_FILENO;
 
 // One read: how many bytes came, at least one; or the end; or the read failed.
 enum Part {
@@ -57,6 +60,22 @@ pub fn read_all(fd: i32, buf: &mut [u8]) -> Stream
         }
     }
     Stream::Full
+}
+
+// The cases that a program replays: how many bytes of standard input. Where it cannot be read to its end there are none, and the program says so.
+pub fn read_cases(program: &[u8], buf: &mut [u8]) -> usize
+    ensures { λ r. ⌜ Counts r (now (buf .exit)) ⌝ }
+{
+    let r = read_all(STDIN_FILENO, buf);
+    let Stream::All(n) = r else {
+        io::write_all(STDERR_FILENO, program);
+        io::write_all(
+            STDERR_FILENO,
+            b": standard input cannot be read, or is too long\n",
+        );
+        return 0;
+    };
+    n
 }
 
 // The position of the first byte b from `start` on, or the end.

@@ -5,11 +5,8 @@ use batch::unpacking;
 use cases::input;
 use cases::input::Bytes;
 use cases::input::Number;
-use cases::input::Stream;
 use exports::packing;
 use exports::packing::Packed;
-use libc::STDERR_FILENO;
-use libc::STDIN_FILENO;
 use libc::STDOUT_FILENO;
 
 fn print_states(batch: &[u8], indices: &[u32]) {
@@ -121,13 +118,6 @@ fn all_cases(text: &[u8]) {
 
 fn main() {
     let mut buf = io::large_buffer();
-    let r = input::read_all(STDIN_FILENO, &mut buf);
-    let Stream::All(n) = r else {
-        io::write_all(
-            STDERR_FILENO,
-            b"exports_cases: standard input cannot be read, or is too long\n",
-        );
-        return;
-    };
+    let n = input::read_cases(b"exports_cases", &mut buf);
     all_cases(&buf[..n]);
 }

@@ -4,7 +4,7 @@ use mathlib.Core.Path.{_≡_, refl, sym, ap, ap₂, _∙_, subst}
 use mathlib.Core.Bool.{Bool, true, false, cond, true≢false}
 use mathlib.Core.List.{List, [], _∷_, _++_, List·Memᴰ, List·Memᴰ·head, List·Memᴰ·tail, List·Memᴰ·cases-cons, List·Memᴰ·not-nil, List·Memᴰ·append-cases, Memᴰ·append-left, Memᴰ·append-right, List·Permᴰ, List·Permᴰ·nil, List·Permᴰ·cons, List·Permᴰ·swap, List·Permᴰ·trans}
 use mathlib.Core.Logic.{_⊎_, inl, inr, ⊎-elim}
-use native.Mathlib.Nat.{le-trans, le-of-eq, le-refl, max-comm, max-le, max-zero, zero-max, le-max-left, le-max-right, max-eq-left, max-eq-right, div-one, div-lt-iff-lt-mul, le-antisymm}
+use native.Mathlib.Nat.{le-trans, le-of-eq, le-refl, max-comm, max-le, max-zero, zero-max, le-max-left, le-max-right, max-eq-left, max-eq-right, div-one, div-lt-iff-lt-mul, le-antisymm, eq-zero-or-pos}
 use native.Mathlib.Omega.{arith}
 use lib.ListN.{length, getD, replicate, length-set, length-replicate, getD-replicate, List·getD-eq-default}
 use lib.Seq.{getD-set-same, getD-set-other, ext-getD}
@@ -345,10 +345,6 @@ largest-least (x ∷ a) m f = max-le (f 0 (omega arith)) (largest-least a m (λ 
 
 -- ---- ranks lowered
 
--- A number is zero or not.
-pub none-or : (n : ℕ) → (n ≡ 0) ⊎ (0 < n)
-none-or n = ⊎-elim (λ (h : 0 < n). inr h) (λ (h : n ≤ 0). inl (let e : n ≡ 0 = omega arith in e)) (side 0 n)
-
 -- A register grows by no more than the bits.
 pub lowered-register-grows : (d i r : ℕ) → loweredRegister d i r ≤ r + d
 lowered-register-grows d i r = le-trans (lowered-register-le d i r) (lowered-le d i r)
@@ -603,7 +599,7 @@ module _ (p s d j : ℕ) (l : List ℕ) (inside : (v : ℕ) → List·Memᴰ v l
       (lowered-register d k (rank p s (b .value)) h ∙ ap (λ (n : ℕ). loweredRank d n (rank p s (b .value))) (sym (b .index))))
       (le-trans
       (peak-upper (lowerIndex p s d) (lowerRank p s d) j l (b .value) (b .listed) (ap (λ (n : ℕ). n / 2 ^ d) (b .index) ∙ e))
-      (le-of-eq (sym (lower-peak p s d j l))))) (none-or (rank p s (b .value)))))
+      (le-of-eq (sym (lower-peak p s d j l))))) (eq-zero-or-pos (rank p s (b .value)))))
       (peak-reached (register p s) (rank p s) k l)))
 
   pub list-lowered : ((v : ℕ) → List·Memᴰ v l → 0 < rank p s v) → rankAtLower p s d j l ≡ loweredAt d 0 (raisedBy p s (zeros p) l) j

@@ -4,7 +4,7 @@ use mathlib.Core.Path.{_≡_, refl, sym, ap, ap₂, _∙_, subst}
 use mathlib.Core.Bool.{Bool, cond}
 use mathlib.Core.List.{List, [], _∷_, _++_, append-assoc, append-nil}
 use mathlib.Core.Logic.{_⊎_, inl, inr, ⊎-elim}
-use native.Mathlib.Nat.{add-sub-cancel, le-trans, le-of-eq, le-antisymm, max-zero, mod-lt, mul-mod-left, mul-le-mul-right, pow-suc, suc-mul}
+use native.Mathlib.Nat.{add-sub-cancel, le-trans, le-of-eq, le-antisymm, max-zero, mod-lt, mul-mod-left, mul-le-mul-right, pow-suc, suc-mul, eq-zero-or-pos, pos-of-ne-zero}
 use native.Mathlib.Numerals.{add-one}
 use native.Mathlib.Omega.{arith}
 use lib.ListN.{length, getD, take, drop, set, replicate, length-set, length-append, length-drop, length-replicate, take-append-drop, drop-of-length-le, List·getD-append}
@@ -17,7 +17,7 @@ use borrow.Author.Tests.{lt-ltb, le-ltb, eq-eqb, ne-eqb}
 use Rattle.wire.proofs.BoolLaws.{both}
 use Rattle.wire.proofs.VarintLaws.{side}
 use Rattle.lists.proofs.ValueLaws.{wider, lowered-zero, lowered-bits, lowered-bits-le, lowered-register, lowered-register-le, register-zero}
-use Rattle.lists.proofs.RankLaws.{none-or, zeros-at, max-assoc, larger-length, larger-at, largest-upper, lowered-length, lowered-at, lowered-upper, lowered-least, lowered-agree, raisedWith, lowerIndex, lowerRank}
+use Rattle.lists.proofs.RankLaws.{zeros-at, max-assoc, larger-length, larger-at, largest-upper, lowered-length, lowered-at, lowered-upper, lowered-least, lowered-agree, raisedWith, lowerIndex, lowerRank}
 use Rattle.lists.specs.Values.{register, rank, IndexPost, RankPost, loweredRank, loweredRegister}
 use Rattle.lists.specs.Registers.{registerBytes, registersOf, withRegisters, zeros, raise, larger, loweredAt, lowered, notZero, largest, clearedFrom, loweredInPlace, offsetRank, HoldsFirst, ReadPost, StorePost, RaisePost, BothHold, ScanPre, ScanPost, LowerPre, BlockPre, BlockPost, DowngradePre}
 
@@ -308,7 +308,7 @@ unfolding notZero
 count-turn regs count i x r h e f l w =
     record {
       few = omega (arith, w .few);
-      sum = ap (λ (n : ℕ). count + x + notZero (drop n regs)) (add-one i) ∙ by-test (none-or r);
+      sum = ap (λ (n : ℕ). count + x + notZero (drop n regs)) (add-one i) ∙ by-test (eq-zero-or-pos r);
     }
   where
     whole : count + notZero (getD regs i 0 ∷ drop (suc i) regs) ≡ notZero regs
@@ -378,7 +378,7 @@ scan-found bytes from to i r h read z s =
       none = s .none;
       found = λ (p : ℕ) (room : registerBytes p ≤ length bytes) (w : to ≤ 2 ^ p) (l : i < to).
           subst (λ (n : ℕ). 0 < n) (read .value p room (let g : i < 2 ^ p = omega arith in g))
-          (⊎-elim (λ (e : r ≡ 0). absurd (z e)) (λ (g : 0 < r). g) (none-or r));
+          (pos-of-ne-zero z);
     }
 
 pub scan-end : (bytes : List ℕ) (from to i : ℕ) → to ≤ i → Scanned bytes from to i → ScanPost bytes from to i
@@ -436,7 +436,7 @@ module _ (regs : List ℕ) (d t : ℕ) (some : 0 < getD regs (t * 2 ^ d) 0) wher
       (λ (o : k % 2 ^ d ≡ 0).
       let f : k ≡ t * 2 ^ d = omega arith in
       le-of-eq (ap (λ (n : ℕ). loweredRegister d n (getD regs n 0)) f ∙ first-lowered))
-      (λ (o : 0 < k % 2 ^ d). omega (arith, lowered-register-le d k (getD regs k 0), lowered-bits-le d k (getD regs k 0) o)) (none-or (k % 2 ^ d))
+      (λ (o : 0 < k % 2 ^ d). omega (arith, lowered-register-le d k (getD regs k 0), lowered-bits-le d k (getD regs k 0) o)) (eq-zero-or-pos (k % 2 ^ d))
 
   first-decides : getD regs (t * 2 ^ d) 0 + d ≡ loweredAt d 0 regs t
   first-decides =
@@ -466,7 +466,7 @@ module _ (regs : List ℕ) (d t at : ℕ) (after : t * 2 ^ d + 1 ≤ at) (before
       let o : 0 < k % 2 ^ d = omega arith in
       le-trans (le-of-eq (at-offset k e o h))
       (let q : 1 + leadingZeros d (k % 2 ^ d) ≤ offsetRank d (at - t * 2 ^ d) = omega (arith, zeros-fall d (at - t * 2 ^ d) (k % 2 ^ d) l m, offset-in d (at - t * 2 ^ d) g) in q))
-      (side k at)) (none-or (getD regs k 0))
+      (side k at)) (eq-zero-or-pos (getD regs k 0))
 
   offset-lands : offsetRank d (at - t * 2 ^ d) ≤ loweredAt d 0 regs t
   offset-lands =
@@ -549,7 +549,7 @@ module _ (bytes : List ℕ) (d t block : ℕ) (pre : BlockPre d t bytes) (size :
   pub code-decides : (first : ℕ) → ReadPost bytes (t * block) first → (first ≡ 0 → ⊥) → BlockPost bytes d t (first + d)
   code-decides first read some =
       first-post bytes d t first (subst (λ (b : ℕ). ReadPost bytes (t * b) first) size read)
-      (⊎-elim (λ (z : first ≡ 0). absurd (some z)) (λ (h : 0 < first). h) (none-or first))
+      (pos-of-ne-zero some)
 
   pub code-block : (first r at : ℕ) → ReadPost bytes (t * block) first → first ≡ 0 → ScanPost bytes (t * block + 1) (t * block + block) at
       → r ≡ offsetRank d (at - t * block) → BlockPost bytes d t r

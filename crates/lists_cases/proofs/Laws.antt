@@ -50,10 +50,6 @@ inserted-front r out m = filled (r .len) out _ (m .count) (m .values)
 pub holding : (p n : ℕ) (bytes : List ℕ) → p ≤ 24 → n ≡ registerBytes p → n ≤ length bytes → Holds p bytes
 holding p n bytes h e room = record { high = h; room = omega (arith, e, room) }
 
--- An answer that is no.
-pub never : {A : Type 0} → false ≡ true → A
-never e = absurd (true≢false (sym e))
-
 pub pair-of : (p s : ℕ) → 4 ≤ p → p ≤ 24 → p ≤ s → s ≤ 25 → Pair p s
 pair-of p s a b c d = record { low = a; high = b; above = c; top = d }
 

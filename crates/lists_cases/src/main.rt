@@ -9,8 +9,6 @@ ghost use Rattle.lists.specs.Values.{SparseFits, valid};
 ghost use Rattle.lists.specs.Registers.{LowerPre};
 ghost use Rattle.lists_cases.specs.Tests.{Mergeable, Insertable};
 use cases::text;
-use libc::STDERR_FILENO;
-use libc::STDIN_FILENO;
 use libc::STDOUT_FILENO;
 use lists::decoding::Decoded;
 use lists::values::Sparse;
@@ -524,13 +522,6 @@ fn all_cases(text: &[u8]) {
 
 fn main() {
     let mut buf = io::large_buffer();
-    let r = cases::input::read_all(STDIN_FILENO, &mut buf);
-    let cases::input::Stream::All(n) = r else {
-        io::write_all(
-            STDERR_FILENO,
-            b"lists_cases: standard input cannot be read, or is too long\n",
-        );
-        return;
-    };
+    let n = cases::input::read_cases(b"lists_cases", &mut buf);
     all_cases(&buf[..n]);
 }

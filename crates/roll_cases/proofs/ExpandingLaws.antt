@@ -1,7 +1,7 @@
 -- Laws of what a line stands for: byte strings one behind the other, in a buffer that is filled from the front.
 use mathlib.Core.Path.{_≡_, refl, sym, ap, _∙_, subst}
 use mathlib.Core.List.{List, [], _∷_, _++_, append-assoc, append-nil}
-use mathlib.Core.Bool.{Bool, true, false, true≢false, cond}
+use mathlib.Core.Bool.{Bool, true, false, cond}
 use mathlib.Core.Option.{Option, none, some}
 use mathlib.Core.Logic.{_⊎_, inl, inr}
 use Prim.Native.Nat.{ℕ, zero, suc, _+_, _*_, _-_, _/_, _<_, _≤_}
@@ -10,7 +10,7 @@ use native.Mathlib.Omega.{arith}
 use denote.Enum.Declared as E
 use lib.Dec.{eqb, ltb}
 use lib.ListN.{length, take, drop, length-append, drop-of-length-le, take-append-drop, length-drop}
-use lib.Seq.{length-take-le, take-at, take-all, drop-cons, drop-drop}
+use lib.Seq.{length-take-le, take-at, drop-cons, drop-drop}
 use borrow.Rule.Slice.PartMut.{midOf, postOf, putMid, mid-len}
 use borrow.Author.Tests.{eq-eqb, ne-eqb}
 use Rattle.io.specs.Counts.{Counts}
@@ -18,10 +18,11 @@ use Rattle.cases.specs.declared.input.Bytes.{Bytes}
 use Rattle.cases.specs.declared.input.Bytes.the-variants.{Count, Other}
 use Rattle.cases.specs.declared.input.Number.{Number}
 use Rattle.cases.specs.declared.input.Number.the-variants.{Value, Other as NumberOther}
-use Rattle.cases.specs.Input.{upTo, digitOf, byteThen, consTo, decimalOf, below64, hexOf, numberMeans, BytesPost}
+use Rattle.cases.specs.Input.{upTo, digitOf, byteThen, consTo, onto, decimalOf, below64, hexOf, numberMeans, BytesPost}
 use Rattle.cases.proofs.input.Bytes.{enum as bytes-enum}
 use Rattle.cases.proofs.input.Number.{enum as number-enum}
-use Rattle.roll_cases.specs.Expanding.{onto, joined, timesOf, times, timesBy, wordBytes, wordsBytes, lineBytes, Expands}
+use Rattle.cases.proofs.InputLaws.{not-some}
+use Rattle.roll_cases.specs.Expanding.{joined, timesOf, times, timesBy, wordBytes, wordsBytes, lineBytes, Expands}
 
 -- ---- what the other tag of an answer says
 
@@ -35,24 +36,16 @@ no-number NumberOther h = refl
 
 -- ---- byte strings, or none
 
-abbrev isSome : Option (List ℕ) → Bool
-isSome none = false
-isSome (some l) = true
-
 abbrev bytesIn : Option (List ℕ) → List ℕ
 bytesIn none = []
 bytesIn (some l) = l
-
-pub onto-nothing : (x : Option (List ℕ)) → x ≡ onto [] x
-onto-nothing none = refl
-onto-nothing (some l) = refl
 
 pub onto-end : (done : List ℕ) → onto done (some []) ≡ some done
 onto-end done = ap some (append-nil done)
 
 -- Where the first of two is put, the second one is left.
 pub onto-joined : (done next : List ℕ) (x y : Option (List ℕ)) → onto done x ≡ some next → onto done (joined x y) ≡ onto next y
-onto-joined done next none y e = absurd (true≢false (sym (ap isSome e)))
+onto-joined done next none y e = not-some e
 onto-joined done next (some l) none e = refl
 onto-joined done next (some l) (some m) e = ap some (sym (append-assoc done l m) ∙ ap (λ (z : List ℕ). z ++ m) (ap bytesIn e))
 
@@ -61,8 +54,8 @@ pub joined-long : (done l : List ℕ) (n : ℕ) (x y : Option (List ℕ))
     → ((m : List ℕ) → onto done x ≡ some m → n < length m)
     → onto done (joined x y) ≡ some l
     → n < length l
-joined-long done l n none y h e = absurd (true≢false (sym (ap isSome e)))
-joined-long done l n (some a) none h e = absurd (true≢false (sym (ap isSome e)))
+joined-long done l n none y h e = not-some e
+joined-long done l n (some a) none h e = not-some e
 joined-long done l n (some a) (some b) h e =
     let k : n < length (done ++ a) = h (done ++ a) refl in
     omega (arith, k, ap length (ap bytesIn e), length-append done (a ++ b), length-append a b, length-append done a)
@@ -79,15 +72,15 @@ byte-length high low n r l h e = go (ltb high 16) (ltb low 16) r h e
         → ((m : List ℕ) → r ≡ some m → length m ≡ n)
         → cond s (cond t (consTo (high * 16 + low) r) none) none ≡ some l
         → length l ≡ n + 1
-    go true true none h e = absurd (true≢false (sym (ap isSome e)))
+    go true true none h e = not-some e
     go true true (some m) h e = omega (arith, h m refl, ap length (ap bytesIn e))
-    go true false r h e = absurd (true≢false (sym (ap isSome e)))
-    go false t r h e = absurd (true≢false (sym (ap isSome e)))
+    go true false r h e = not-some e
+    go false t r h e = not-some e
 
 hex-length : (w l : List ℕ) → hexOf w ≡ some l → length l ≡ length w / 2
 unfolding hexOf
 hex-length [] l e = sym (ap length (ap bytesIn e))
-hex-length (a ∷ []) l e = absurd (true≢false (sym (ap isSome e)))
+hex-length (a ∷ []) l e = not-some e
 hex-length (a ∷ b ∷ w) l e = omega (arith, byte-length (digitOf a) (digitOf b) (length w / 2) (hexOf w) l (hex-length w) e)
 
 -- ---- a byte string, several times
@@ -135,17 +128,14 @@ module _ (piece out last : List ℕ) (at left : ℕ) (r : Bytes) (inside : at �
       (sym (ap (onto (take at out)) (times-more (hexOf piece) left more)) ∙ w)
     where
       by : (x : Option (List ℕ)) → hexOf piece ≡ x → length out - at < length piece / 2 → (m : List ℕ) → onto (take at out) x ≡ some m → length out < length m
-      by none f h m g = absurd (true≢false (sym (ap isSome g)))
+      by none f h m g = not-some g
       by (some a) f h m g = omega (arith, h, hex-length piece a f, ap length (ap bytesIn g), length-append (take at out) a, length-take-le at out inside)
 
       long : (hexOf piece ≡ none) ⊎ (length (midOf at (length out - at) out) < length piece / 2) → (m : List ℕ) → onto (take at out) (hexOf piece) ≡ some m → length out < length m
-      long (inl f) m g = absurd (true≢false (sym (ap isSome (sym (ap (onto (take at out)) f) ∙ g))))
+      long (inl f) m g = not-some (sym (ap (onto (take at out)) f) ∙ g)
       long (inr h) m g = by (hexOf piece) refl (omega (arith, h, mid-len at (length out) out (omega arith))) m g
 
 -- ---- a word
-
-pub to-the-end : (word : List ℕ) (at : ℕ) → take (length word - at) (drop at word) ≡ drop at word
-to-the-end word at = take-all (length word - at) (drop at word) (let k : length (drop at word) ≤ length word - at = omega (arith, length-drop at word) in k)
 
 pub no-star : (word : List ℕ) (star : ℕ) → star ≡ length word → some 1 ≡ times (drop star word)
 no-star word star e = let h : length word ≤ star = omega arith in sym (ap times (drop-of-length-le word h))
@@ -165,7 +155,7 @@ module _ (word : List ℕ) (star : ℕ) (e : star ≡ 0 + upTo 42 (drop 0 word))
   word-none h = word-is ∙ ap (λ (x : Option ℕ). timesBy x (hexOf (take star word))) (sym h)
 
 pub none-long : (done : List ℕ) (x : Option (List ℕ)) (n : ℕ) → x ≡ none → (l : List ℕ) → onto done x ≡ some l → n < length l
-none-long done x n e l w = absurd (true≢false (sym (ap isSome (sym (ap (onto done) e) ∙ w))))
+none-long done x n e l w = not-some (sym (ap (onto done) e) ∙ w)
 
 -- ---- a line
 

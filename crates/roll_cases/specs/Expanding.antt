@@ -1,7 +1,7 @@
 -- The bytes that a line of `roll_cases` stands for: words with a blank between them, each a byte string in hexadecimal, or one with a star and a number
 -- behind it, which stands there so many times.
 use mathlib.Core.Path.{_≡_}
-use mathlib.Core.List.{List, [], _∷_, _++_}
+use mathlib.Core.List.{List, [], _∷_}
 use mathlib.Core.Bool.{cond}
 use mathlib.Core.Option.{Option, none, some}
 use Prim.Native.Nat.{ℕ, zero, suc, _+_, _<_}
@@ -10,12 +10,7 @@ use lib.ListN.{length, take, drop}
 use Rattle.io.specs.Counts.{Counts}
 use Rattle.cases.specs.declared.input.Bytes.{Bytes}
 use Rattle.cases.specs.declared.input.Bytes.the-variants.{Count, Other}
-use Rattle.cases.specs.Input.{upTo, decimalOf, below64, hexOf}
-
--- Bytes in front of others.
-abbrev pub onto : List ℕ → Option (List ℕ) → Option (List ℕ)
-onto done none = none
-onto done (some l) = some (done ++ l)
+use Rattle.cases.specs.Input.{upTo, decimalOf, below64, onto, hexOf}
 
 -- Two byte strings, one behind the other.
 abbrev pub joined : Option (List ℕ) → Option (List ℕ) → Option (List ℕ)

@@ -5,10 +5,7 @@ ghost use Prim.Native.Nat.{_<_};
 ghost use lib.ListN.{length};
 use cases::input;
 use cases::input::Bytes;
-use cases::input::Stream;
 use cases::text;
-use libc::STDERR_FILENO;
-use libc::STDIN_FILENO;
 use libc::STDOUT_FILENO;
 
 mod expanding;
@@ -67,13 +64,6 @@ fn all_cases(text: &[u8]) {
 
 fn main() {
     let mut buf = stream_bytes();
-    let r = input::read_all(STDIN_FILENO, &mut buf);
-    let Stream::All(n) = r else {
-        io::write_all(
-            STDERR_FILENO,
-            b"roll_cases: standard input cannot be read, or is too long\n",
-        );
-        return;
-    };
+    let n = input::read_cases(b"roll_cases", &mut buf);
     all_cases(&buf[..n]);
 }

@@ -1,11 +1,11 @@
 -- One thing of all states, `over`: what holds of it whatever the operation is, and the four operations that are used.
 -- The law `over-set`: with an operation that is associative, commutative and idempotent it depends on the set of the states alone.
-use Prim.Native.Nat.{ℕ, _+_, _*_, _/_, _%_, _^_, _<_, _≤_, min}
+use Prim.Native.Nat.{ℕ, _+_, _*_, _/_, _%_, _^_, _<_, min}
 use mathlib.Core.Path.{_≡_, refl, sym, ap, ap₂, _∙_}
 use mathlib.Core.Bool.{Bool, true, false, cond}
 use mathlib.Core.Logic.{⊎-elim}
 use mathlib.Core.List.{List, [], _∷_, List·Memᴰ, List·Memᴰ·head, List·Memᴰ·tail, List·Memᴰ·cases-cons, List·Memᴰ·not-nil}
-use native.Mathlib.Nat.{min-comm}
+use native.Mathlib.Nat.{min-comm, min-eq-left, min-eq-right, le-of-lt}
 use native.Mathlib.Omega.{arith}
 use lib.Arith.{bin-ind}
 use lib.Bits.{bitAnd, and-step, and-comm, and-self}
@@ -178,15 +178,9 @@ signed-small x y h k = go (ltb (signedKey y) (signedKey x))
 key-min : (x y : ℕ) → signedKey (signedMin x y) ≡ min (signedKey x) (signedKey y)
 key-min x y = go (ltb (signedKey y) (signedKey x)) refl
   where
-    second : (a b : ℕ) → b < a → b ≡ min a b
-    second a b h = omega arith
-
-    first : (a b : ℕ) → a ≤ b → a ≡ min a b
-    first a b h = omega arith
-
     go : (b : Bool) → ltb (signedKey y) (signedKey x) ≡ b → signedKey (cond b y x) ≡ min (signedKey x) (signedKey y)
-    go true e = second (signedKey x) (signedKey y) (ltb-true (signedKey y) (signedKey x) e)
-    go false e = first (signedKey x) (signedKey y) (ltb-false (signedKey y) (signedKey x) e)
+    go true e = sym (min-eq-right (le-of-lt (ltb-true (signedKey y) (signedKey x) e)))
+    go false e = sym (min-eq-left (ltb-false (signedKey y) (signedKey x) e))
 
 pub signed-joins : Joins Small signedMin
 signed-joins =

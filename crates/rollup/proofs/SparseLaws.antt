@@ -19,6 +19,7 @@ use Rattle.lists.specs.declared.merging.Merged.{Merged}
 use Rattle.lists.specs.Values.{Pair, SparseFits, NewPost}
 use Rattle.lists.specs.Sorting.{ascends, sortOf}
 use Rattle.lists.specs.Lists.{allValid, written, merged, distinctSlots, MergePost, InsertPre, InsertPost}
+use Rattle.lists.specs.Merging.{MergePre}
 use Rattle.lists.specs.Registers.{registerBytes, registersOf, withRegisters, zeros, raisedBy, larger}
 use Rattle.lists.proofs.OrderLaws.{ascends-sort, length-sort, perm-sort}
 use Rattle.lists.proofs.MergeLaws.{valid-append, valid-sort, merged-perm, merged-valid, length-merged, length-encode}
@@ -62,22 +63,7 @@ pub counted-head : (a : Accumulator) (mask count : ℕ) → a .form ≡ Sparse
       «pending_len» = a .«pending_len»;
     }
     ≡ counted a mask count
-counted-head a mask count e =
-    ap
-    (λ (f : Form).
-    record {
-      form = f;
-      allowed = mask;
-      «value_type» = a .«value_type»;
-      «num_values» = count;
-      precision = a .precision;
-      «sparse_precision» = a .«sparse_precision»;
-      «sparse_size» = a .«sparse_size»;
-      «sparse_len» = a .«sparse_len»;
-      «sparse_bytes» = a .«sparse_bytes»;
-      «pending_len» = a .«pending_len»;
-    })
-    e
+counted-head a mask count e = rw e
 
 -- ---- registers
 
@@ -206,6 +192,33 @@ module _ (p s : ℕ) where
   merge-copied a b r from to n e f m =
       record { count = m .count; bytes = m .bytes; values = ap (λ (k : ℕ). take k to) (let g : r .len ≡ n = omega arith in g) ∙ f ∙ m .values }
 
+-- Values that were put in order, in place, and the merge of them and of those kept.
+module _ (vs ordered tail : List ℕ) (n : ℕ) (long : length vs ≡ n) (e : ordered ≡ sortOf vs) where
+  pub sorted-front : take n (ordered ++ tail) ≡ sortOf vs
+  sorted-front = take-at ordered tail n (ap length e ∙ length-sort vs ∙ long) ∙ e
+
+  module _ (enc : Encoding) (kept : List ℕ) where
+    pub sorted-merge : (spare : List ℕ) → SparseFits enc → ascends kept ≡ true → allValid (enc .«normal_precision») (enc .«sparse_precision») kept ≡ true
+        → allValid (enc .«normal_precision») (enc .«sparse_precision») vs ≡ true → length kept + n ≤ length spare → MergePre enc kept (take n (ordered ++ tail)) spare
+    sorted-merge spare fits order ok new room =
+        let p = enc .«normal_precision» in
+        let s = enc .«sparse_precision» in
+        record {
+          fits = fits;
+          left-order = order;
+          left-valid = ok;
+          right-order = ap ascends sorted-front ∙ ascends-sort vs;
+          right-valid = ap (allValid p s) sorted-front ∙ valid-sort p s vs new;
+          room = omega (arith, room, ap length sorted-front, length-sort vs, long);
+        }
+
+    pub sorted-post : (r : Merged) (after : List ℕ) → MergePost (enc .«normal_precision») (enc .«sparse_precision») kept (take n (ordered ++ tail)) r after
+        → MergePost (enc .«normal_precision») (enc .«sparse_precision») kept vs r after
+    sorted-post r after m =
+        let p = enc .«normal_precision» in
+        let s = enc .«sparse_precision» in
+        merge-post p s kept (take n (ordered ++ tail)) vs r after (ap (merged p s kept) sorted-front ∙ merged-sort p s kept vs) m
+
 module _ (enc : Encoding) (sparse : List ℕ) (n : ℕ) (incoming scratch : List ℕ) (pre : BackPre enc sparse n incoming scratch) (r : Merged) (after : List ℕ)
     (post : MergePost (enc .«normal_precision») (enc .«sparse_precision») (take n sparse) incoming r after) where
   pub back-fits : r .len ≤ n + length incoming
@@ -241,41 +254,32 @@ module _ (enc : Encoding) (sparse : List ℕ) (n : ℕ) (pending : List ℕ) (w 
 
     -- They were put in order, in place.
     module _ (ordered tail : List ℕ) (g : ordered ≡ sortOf (take all first)) where
-      ordered-length : length ordered ≡ all
-      ordered-length = ap length g ∙ length-sort (take all first) ∙ joined-length ∙ (let h : w + k ≡ all = omega arith in h)
+      abbrev both : List ℕ
+      both = take w pending ++ take k scratch
 
-      joined-part : take all (ordered ++ tail) ≡ sortOf (take w pending ++ take k scratch)
-      joined-part = take-at ordered tail all ordered-length ∙ g ∙ ap sortOf f
+      both-length : length both ≡ all
+      both-length = ap length (sym f) ∙ joined-length ∙ (let h : w + k ≡ all = omega arith in h)
+
+      in-order : ordered ≡ sortOf both
+      in-order = g ∙ ap sortOf f
 
       pub joined-back : (spare : List ℕ) → length spare ≡ length scratch → BackPre enc sparse n (take all (ordered ++ tail)) spare
       joined-back spare same =
           let p = enc .«normal_precision» in
           let s = enc .«sparse_precision» in
-          let vs = take w pending ++ take k scratch in
-          let size : length (take all (ordered ++ tail)) ≡ w + k = ap length (take-at ordered tail all ordered-length) ∙ ordered-length ∙ (let h : all ≡ w + k = omega arith in h) in
+          let kept-length = length-take-le n sparse (let h : n ≤ length sparse = omega (arith, pre .in-sparse) in h) in
           record {
             merge =
-                record {
-                  fits = pre .fits;
-                  left-order = pre .order;
-                  left-valid = pre .kept-valid;
-                  right-order = ap ascends joined-part ∙ ascends-sort vs;
-                  right-valid =
-                      ap (allValid p s) joined-part ∙ valid-sort p s vs (valid-append p s (take w pending) (take k scratch) (pre .waiting-valid) (pre .incoming-valid));
-                  room = omega (arith, pre .in-scratch, pre .in-sparse, size, same, length-take-le n sparse (let h : n ≤ length sparse = omega (arith, pre .in-sparse) in h));
-                };
-            room = omega (arith, pre .in-sparse, size);
+                sorted-merge both ordered tail all both-length in-order enc (take n sparse) spare (pre .fits) (pre .order) (pre .kept-valid)
+                (valid-append p s (take w pending) (take k scratch) (pre .waiting-valid) (pre .incoming-valid))
+                (omega (arith, pre .in-scratch, pre .in-sparse, same, kept-length));
+            room = omega (arith, pre .in-sparse, ap length (sorted-front both ordered tail all both-length in-order), length-sort both, both-length);
           }
 
       pub joined-post : (r : Merged) (after : List ℕ)
           → MergePost (enc .«normal_precision») (enc .«sparse_precision») (take n sparse) (take all (ordered ++ tail)) r after
-          → MergePost (enc .«normal_precision») (enc .«sparse_precision») (take n sparse) (take w pending ++ take k scratch) r after
-      joined-post r after m =
-          let p = enc .«normal_precision» in
-          let s = enc .«sparse_precision» in
-          let vs = take w pending ++ take k scratch in
-          merge-post p s (take n sparse) (take all (ordered ++ tail)) vs r after
-          (ap (merged p s (take n sparse)) joined-part ∙ merged-sort p s (take n sparse) vs) m
+          → MergePost (enc .«normal_precision») (enc .«sparse_precision») (take n sparse) both r after
+      joined-post = sorted-post both ordered tail all both-length in-order enc (take n sparse)
 
 -- ---- insertion or merge
 

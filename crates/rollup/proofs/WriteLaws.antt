@@ -28,8 +28,8 @@ use Rattle.lists.specs.Sorting.{ascends, sortOf}
 use Rattle.lists.specs.Lists.{allValid, written, encodeList, merged, distinctSlots, distinctIndices, IndexPre, MergePost}
 use Rattle.lists.specs.Merging.{EncodePre, MergePre}
 use Rattle.lists.specs.Registers.{registerBytes, registersOf}
-use Rattle.lists.proofs.OrderLaws.{ascends-sort, length-sort, perm-sort}
-use Rattle.lists.proofs.MergeLaws.{valid-sort, merged-ascends, merged-distinct, merged-valid, length-merged, length-encode}
+use Rattle.lists.proofs.OrderLaws.{perm-sort}
+use Rattle.lists.proofs.MergeLaws.{merged-ascends, merged-distinct, merged-valid, length-merged, length-encode}
 use Rattle.lists.proofs.IndexLaws.{distinct-merged, distinct-le}
 use Rattle.lists.proofs.RegisterLaws.{registers-are}
 use Rattle.rollup.specs.declared.accumulator.Form.{Form}
@@ -41,7 +41,7 @@ use Rattle.rollup.specs.Adding.{isStarted}
 use Rattle.rollup.specs.Writing.{flushed, currentSize, stateWith, stateForm, belowLimit, unless, writeOutcome, WritePost}
 use Rattle.rollup.specs.WritingPaths.{Writes, writtenFields, listOutcome, ValuesPre, FlushPre, FlushPost}
 use Rattle.rollup.proofs.FitLaws.{FitSparse, fit-sparse, fit-dense, whole-sparse, limit-small}
-use Rattle.rollup.proofs.SparseLaws.{at-pair, of-pair, counts-short, merged-sort, merge-post}
+use Rattle.rollup.proofs.SparseLaws.{at-pair, of-pair, counts-short, sorted-front, sorted-merge, sorted-post}
 
 -- ---- a question that is answered with yes, and one with no
 
@@ -449,32 +449,16 @@ module _ (enc : Encoding) (kept pending : List ℕ) (w : ℕ) (scratch : List �
   -- They were put in order, in place.
   module _ (ordered tail : List ℕ) (e : ordered ≡ sortOf (take w pending)) where
     pub ordered-front : take w (ordered ++ tail) ≡ sortOf (take w pending)
-    ordered-front = take-at ordered tail w (ap length e ∙ length-sort (take w pending) ∙ waiting-length) ∙ e
+    ordered-front = sorted-front (take w pending) ordered tail w waiting-length e
 
     pub flush-merge : (spare : List ℕ) → length spare ≡ length scratch → MergePre enc kept (take w (ordered ++ tail)) spare
     flush-merge spare same =
-        let p = enc .«normal_precision» in
-        let s = enc .«sparse_precision» in
-        record {
-          fits = pre .fits;
-          left-order = pre .order;
-          left-valid = pre .kept-valid;
-          right-order = ap ascends ordered-front ∙ ascends-sort (take w pending);
-          right-valid = ap (allValid p s) ordered-front ∙ valid-sort p s (take w pending) (pre .waiting-valid);
-          room = omega (arith, pre .room, same, ap length ordered-front, length-sort (take w pending), waiting-length);
-        }
+        sorted-merge (take w pending) ordered tail w waiting-length e enc kept spare (pre .fits) (pre .order) (pre .kept-valid) (pre .waiting-valid)
+        (omega (arith, pre .room, same))
 
     pub flush-post : (r : Merged) (after : List ℕ) → MergePost (enc .«normal_precision») (enc .«sparse_precision») kept (take w (ordered ++ tail)) r after
         → FlushPost (enc .«normal_precision») (enc .«sparse_precision») kept pending w r (ordered ++ tail) after
-    flush-post r after m =
-        let p = enc .«normal_precision» in
-        let s = enc .«sparse_precision» in
-        record {
-          merge =
-              merge-post p s kept (take w (ordered ++ tail)) (take w pending) r after
-              (ap (merged p s kept) ordered-front ∙ merged-sort p s kept (take w pending)) m;
-          waiting = ordered-front;
-        }
+    flush-post r after m = record { merge = sorted-post (take w pending) ordered tail w waiting-length e enc kept r after m; waiting = ordered-front }
 
 -- ---- what is known where a state was written
 

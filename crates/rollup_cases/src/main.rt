@@ -5,8 +5,6 @@ ghost use Prim.Native.Nat.{_≤_, _<_};
 ghost use lib.ListN.{length};
 use cases::input::Bytes;
 use cases::text;
-use libc::STDERR_FILENO;
-use libc::STDIN_FILENO;
 use libc::STDOUT_FILENO;
 use rollup::accumulator::Accumulator;
 use rollup::accumulator::Form;
@@ -357,13 +355,6 @@ fn all_cases(text: &[u8]) {
 
 fn main() {
     let mut buf = stream_bytes();
-    let r = cases::input::read_all(STDIN_FILENO, &mut buf);
-    let cases::input::Stream::All(n) = r else {
-        io::write_all(
-            STDERR_FILENO,
-            b"rollup_cases: standard input cannot be read, or is too long\n",
-        );
-        return;
-    };
+    let n = cases::input::read_cases(b"rollup_cases", &mut buf);
     all_cases(&buf[..n]);
 }

@@ -3,8 +3,6 @@
 ghost use Prim.Native.Nat.{_≤_};
 ghost use lib.ListN.{length};
 use cases::text;
-use libc::STDERR_FILENO;
-use libc::STDIN_FILENO;
 use libc::STDOUT_FILENO;
 use wire::encoding::Encoded;
 use wire::state::Fields;
@@ -196,13 +194,6 @@ fn all_cases(text: &[u8]) {
 
 fn main() {
     let mut buf = io::large_buffer();
-    let r = cases::input::read_all(STDIN_FILENO, &mut buf);
-    let cases::input::Stream::All(n) = r else {
-        io::write_all(
-            STDERR_FILENO,
-            b"wire_cases: standard input cannot be read, or is too long\n",
-        );
-        return;
-    };
+    let n = cases::input::read_cases(b"wire_cases", &mut buf);
     all_cases(&buf[..n]);
 }

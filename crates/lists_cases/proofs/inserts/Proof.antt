@@ -3,7 +3,8 @@ use mathlib.Core.Path.{sym, _∙_}
 use denote.Ref.{now}
 use borrow.Author.Tests.{not-false}
 use native.Mathlib.Omega.{arith}
-use Rattle.lists_cases.proofs.Laws.{never, insertable}
+use Rattle.wire.proofs.BoolLaws.{never}
+use Rattle.lists_cases.proofs.Laws.{insertable}
 use borrow.Author.Needs.{needs}
 use Rattle.lists_cases.proofs.inserts.Statement.{statement}
 use Rattle.lists_cases.proofs.inserts.Tie as tie

@@ -2,7 +2,8 @@
 use denote.Ref.{now}
 use borrow.Author.Tests.{not-false}
 use native.Mathlib.Omega.{arith}
-use Rattle.lists_cases.proofs.Laws.{never, lowerable}
+use Rattle.wire.proofs.BoolLaws.{never}
+use Rattle.lists_cases.proofs.Laws.{lowerable}
 use borrow.Author.Needs.{needs}
 use Rattle.lists_cases.proofs.lowers.Statement.{statement}
 use Rattle.lists_cases.proofs.lowers.Tie as tie

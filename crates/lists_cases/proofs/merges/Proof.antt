@@ -2,7 +2,8 @@
 use mathlib.Core.Path.{sym, _∙_}
 use denote.Ref.{now}
 use borrow.Author.Tests.{not-false}
-use Rattle.lists_cases.proofs.Laws.{never, mergeable}
+use Rattle.wire.proofs.BoolLaws.{never}
+use Rattle.lists_cases.proofs.Laws.{mergeable}
 use borrow.Author.Needs.{needs}
 use Rattle.lists_cases.proofs.merges.Statement.{statement}
 use Rattle.lists_cases.proofs.merges.Tie as tie

@@ -5,8 +5,8 @@ use Prim.Native.Nat.{_*_, _/_, _%_, _-_, _≤_, _<_}
 use native.Mathlib.Omega.{arith}
 use lib.ListN.{length, take, drop, length-set}
 use borrow.Author.Needs.{needs}
-use Rattle.cases.proofs.InputLaws.{hex-done, onto, onto-nothing, hex-odd, hex-high, hex-low, hex-next, drop-next}
-use Rattle.cases.specs.Input.{hexOf}
+use Rattle.cases.proofs.InputLaws.{hex-done, onto-nothing, hex-odd, hex-high, hex-low, hex-next, drop-next}
+use Rattle.cases.specs.Input.{hexOf, onto}
 use Rattle.cases.proofs.input.read_bytes.Statement.{statement}
 use Rattle.cases.proofs.input.read_bytes.Tie as tie
 

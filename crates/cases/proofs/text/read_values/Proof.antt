@@ -4,8 +4,8 @@ use Prim.Native.Nat.{_+_, _-_, _≤_}
 use native.Mathlib.Omega.{arith}
 use denote.Ref.{now}
 use lib.ListN.{length, take, drop, length-set}
+use Rattle.cases.specs.Input.{onto}
 use Rattle.cases.specs.Text.{valuesIn}
-use Rattle.cases.proofs.InputLaws.{onto}
 use Rattle.cases.proofs.TextLaws.{front, values-start, values-full, values-other, values-turn, values-end}
 use borrow.Author.Needs.{needs}
 use Rattle.cases.proofs.text.read_values.Statement.{statement}

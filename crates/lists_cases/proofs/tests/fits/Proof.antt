@@ -1,5 +1,6 @@
 -- `fits` meets its contract: a pair for which no question was answered with no has all four bounds.
-use Rattle.lists_cases.proofs.Laws.{never, pair-of}
+use Rattle.wire.proofs.BoolLaws.{never}
+use Rattle.lists_cases.proofs.Laws.{pair-of}
 use Rattle.lists_cases.proofs.tests.fits.Statement.{statement}
 use Rattle.lists_cases.proofs.tests.fits.Tie as tie
 

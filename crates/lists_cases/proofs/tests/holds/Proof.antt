@@ -1,12 +1,10 @@
 -- Where both tests pass, the bytes hold the registers of the precision (`holding`).
 use denote.Ref.{now}
-use Rattle.lists_cases.proofs.Laws.{never, holding}
+use Rattle.wire.proofs.BoolLaws.{never}
+use Rattle.lists_cases.proofs.Laws.{holding}
 use borrow.Author.Needs.{needs}
 use Rattle.lists_cases.proofs.tests.holds.Statement.{statement}
 use Rattle.lists_cases.proofs.tests.holds.Tie as tie
-use Rattle.lists_cases.proofs.tests.holds.Reads as reads
-use Rattle.lists_cases.proofs.tests.holds.Lts as lts
-use Rattle.lists.proofs.registers.register_bytes.Reads as register-bytes-reads
 
 returns : tie.Need-returns
 returns c = never

@@ -4,8 +4,9 @@ use mathlib.Core.List.{List}
 use Prim.Native.Nat.{ℕ, _+_}
 use native.Mathlib.Omega.{arith}
 use borrow.Author.Needs.{needs}
+use Rattle.lists.proofs.MergingLaws.{rest-all}
 use Rattle.cases.specs.Input.{decimalOf, below64}
-use Rattle.roll_cases.proofs.ExpandingLaws.{no-star, past-star, to-the-end}
+use Rattle.roll_cases.proofs.ExpandingLaws.{no-star, past-star}
 use Rattle.roll_cases.proofs.expanding.times.Statement.{statement}
 use Rattle.roll_cases.proofs.expanding.times.Tie as tie
 
@@ -30,7 +31,7 @@ read-number-requires c κs = search needs
 returns-2 : tie.Need-returns-2
 returns-2 c =
     let o = c .before .before .before .before in
-    c .read-number .ensures .answer ∙ ap (λ (l : List ℕ). below64 (decimalOf l)) (to-the-end (o .args .word .now) (o .args .star + 1)) ∙ sym (past-star (o .args .word .now) (o .args .star) (omega (arith, c .before .before .if1 .left, o .pre)))
+    c .read-number .ensures .answer ∙ ap (λ (l : List ℕ). below64 (decimalOf l)) (rest-all (o .args .word .now) (o .args .star + 1)) ∙ sym (past-star (o .args .word .now) (o .args .star) (omega (arith, c .before .before .if1 .left, o .pre)))
 
 pub times-spec : {M : Type 1} → statement M
 times-spec =
