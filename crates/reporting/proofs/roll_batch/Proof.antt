@@ -40,7 +40,9 @@ print-report-requires c κs =
     let e = c .before .before .before .before .before .before .before .before .before .roll .ensures in
     let few = few-records e in
     let cells = c .before .before .before .before .before .before .before .before .before .roll .kept .1 .1 .1 .1 .1 .0 in
-    (omega (arith, few, cells), omega (arith, few), written-inside e)
+    let inside = written-inside e in
+    let bytes = c .before .before .before .before .before .before .before .before .before .roll .kept .1 .1 .1 .1 .1 .1 .1 .0 in
+    record { records-in = omega (arith, few, cells); records-few = omega (arith, few); written-in = inside; written-few = omega (arith, inside, bytes) }
 
 returns : tie.Need-returns
 returns c = search needs
