@@ -19,7 +19,8 @@ use Rattle.reporting.specs.declared.text.Place.{Place}
 use Rattle.reporting.specs.declared.text.Place.the-variants.{Answers, Closing, State, End}
 use Rattle.reporting.specs.Numbers.{numberText}
 use Rattle.reporting.specs.Text.{answerLines, endingText, numbersOf, closingText, stateText, reportText}
-use Rattle.reporting.specs.Pieces.{restText, left, Within, ReportIn, StandsAt, PiecePost}
+use Rattle.reporting.specs.Pieces.{restText, left, Within, ReportIn, ReportOf, StandsAt, PiecePost}
+use Rattle.batch.proofs.ClosingLaws.{few-records, written-inside}
 use Rattle.reporting.proofs.text.Place.{enum as place-enum}
 use Rattle.reporting.proofs.NumberLaws.{number-length}
 use Rattle.reporting.proofs.TextLaws.{lines-both, lines-length, ending-length, numbers-length}
@@ -233,6 +234,15 @@ left-some r End (inr (inl k)) = absurd (let z : ⊥ = omega arith in z)
 left-some r End (inr (inr k)) = absurd (let z : ⊥ = omega arith in z)
 
 -- ---- the whole text
+
+-- There are no more records than cells, and what was written lies inside the output.
+pub report-in : {batch answers out : List ℕ} {r : Report} → ReportOf batch r answers out → ReportIn r answers out
+report-in p =
+    let few = few-records (p .post) in
+    let inside = written-inside (p .post) in
+    let c = p .cells-lent in
+    let o = p .output-lent in
+    record { records-in = omega arith; records-few = omega arith; written-in = inside; written-few = omega arith }
 
 -- `done` bytes were handed over, and the rest of the text begins at the place.
 pub record Done (r : Report) (answers out : List ℕ) (done : ℕ) (at : Place) : Type 0 where

@@ -4,7 +4,9 @@ use mathlib.Core.List.{List, [], _++_}
 use Prim.Native.Nat.{ℕ, _+_, _-_, _≤_, _<_}
 use lib.ListN.{length, take, drop}
 use Rattle.io.specs.Counts.{Counts}
+use Rattle.rollup.specs.Accumulator.{Mem}
 use Rattle.batch.specs.declared.closing.Report.{Report}
+use Rattle.batch.specs.Closing.{ReportPost}
 use Rattle.reporting.specs.declared.text.Place.{Place}
 use Rattle.reporting.specs.declared.text.Place.the-variants.{Answers, Closing, State, End}
 use Rattle.reporting.specs.declared.text.Piece.{Piece}
@@ -38,6 +40,22 @@ pub record ReportIn (r : Report) (answers out : List ℕ) : Type 0 where
   pub records-few : r .rolled .records ≤ 65536
   pub written-in : r .written .len ≤ length out
   pub written-few : r .written .len ≤ 65536
+
+-- What `roll` of `batch` promises of a batch that is rolled up in "65,536 registers, three lists of 16,384 and 65,536 output bytes", whatever they held:
+-- this report, these answers, this output. `cells` and `bytes` are what the answers' cells and the output held before.
+pub record ReportOf (batch : List ℕ) (r : Report) (answers out : List ℕ) : Type 0 where
+  pub first : Mem
+  pub last : Mem
+  pub room : ℕ
+  pub space : ℕ
+  pub cells : List ℕ
+  pub bytes : List ℕ
+  pub post : ReportPost batch first room cells space bytes r last answers out
+  pub registers-lent : length (first .registers) ≡ 65536
+  pub lists-lent : (length (first .sparse) ≡ 16384) × (length (first .pending) ≡ 16384) × (room ≡ 16384)
+  pub spare-lent : space ≡ 65536
+  pub cells-lent : (length cells ≡ 65536) × (length answers ≡ 65536)
+  pub output-lent : (length bytes ≡ 65536) × (length out ≡ 65536)
 
 -- The piece is what the text has at the byte `done`.
 abbrev pub StandsAt : List ℕ → ℕ → List ℕ → Type 0

@@ -5,7 +5,7 @@ ghost use mathlib.Core.Path.{_≡_};
 ghost use mathlib.Core.Bool.{true};
 ghost use lib.ListN.{length};
 ghost use Rattle.reporting.specs.Text.{reportText};
-ghost use Rattle.reporting.specs.Pieces.{ReportIn, StandsAt};
+ghost use Rattle.reporting.specs.Pieces.{ReportOf, StandsAt};
 use crate::text::Place;
 use batch::closing;
 use batch::closing::Report;
@@ -13,15 +13,15 @@ use libc::STDOUT_FILENO;
 
 mod text;
 
-// Hands a piece of a report's text over. That it is what the text has at the byte `done` is what this asks; what reaches the descriptor no contract can
-// say.
-fn hand_over(r: Report, answers: &[u8], out: &[u8], done: usize, piece: &[u8]) -> bool
-    requires { ⌜ StandsAt (reportText r (now answers) (now out)) done (now piece) ⌝ }
+// Hands a piece of the text over. That the text is that of the batch's report, and the piece what it has at the byte `done`, is what this asks; what
+// reaches the descriptor no contract can say.
+fn hand_over(batch: &[u8], r: Report, answers: &[u8], out: &[u8], done: usize, piece: &[u8]) -> bool
+    requires { ⌜ (ReportOf (now batch) r (now answers) (now out)) × (StandsAt (reportText r (now answers) (now out)) done (now piece)) ⌝ }
 {
     io::write_all(STDOUT_FILENO, piece)
 }
 
-// That nothing of a report's text is left is what this asks.
+// That nothing of the text is left is what this asks.
 fn all_done(r: Report, answers: &[u8], out: &[u8], done: usize) -> bool
     requires { ⌜ done ≡ length (reportText r (now answers) (now out)) ⌝ }
     ensures { λ b. ⌜ b ≡ true ⌝ }
@@ -30,8 +30,8 @@ fn all_done(r: Report, answers: &[u8], out: &[u8], done: usize) -> bool
 }
 
 // All pieces of the text, each behind those that are done. The answer is whether all of them were written.
-fn print_report(r: Report, answers: &[u8], out: &[u8]) -> bool
-    requires { ⌜ ReportIn r (now answers) (now out) ⌝ }
+fn print_report(batch: &[u8], r: Report, answers: &[u8], out: &[u8]) -> bool
+    requires { ⌜ ReportOf (now batch) r (now answers) (now out) ⌝ }
 {
     let mut buffer = [0u8; 4097];
     let mut at = Place::Answers(0);
@@ -42,7 +42,7 @@ fn print_report(r: Report, answers: &[u8], out: &[u8]) -> bool
         }
         let piece = text::put_piece(r, answers, out, at, &mut buffer);
         let len = piece.len;
-        if !hand_over(r, answers, out, done, &buffer[..len]) {
+        if !hand_over(batch, r, answers, out, done, &buffer[..len]) {
             return false;
         }
         at = piece.next;
@@ -52,10 +52,10 @@ fn print_report(r: Report, answers: &[u8], out: &[u8]) -> bool
 
 // Rolls up a batch in "65,536 registers, three lists of 16,384 and 65,536 output bytes", and prints what is said of it. 65,536 cells suffice for the
 // answers, and a piece as long as the registers for those of a list. The answer is whether all was written.
-// Proved of the text: `roll` determines the report, the answers and the output; `reportText` makes one text of them; each piece that is handed to
-// `io::write_all` is, byte for byte, what this text has at the byte `done` (`hand_over` asks it), and at the end `done` is its length (`all_done` asks
-// it). Not proved, since no contract can say it: which bool `io::write_all` answers, what reaches standard output, and that a piece is handed over
-// once, before `done` moves past it; that is to be read in the loop of `print_report`.
+// Proved of the text, since `hand_over` and `all_done` ask it where they are called: the report, the answers and the output are those that `roll` promises
+// of this batch in this memory (`ReportOf`); a piece that is handed to `io::write_all` is, byte for byte, what their text, `reportText`, has at the byte
+// `done`; and where the pieces end, `done` is the text's length. Not proved, since no contract can say it: which bool `io::write_all` answers, what
+// reaches standard output, and that a piece is handed over once, before `done` moves past it. The last is to be read in the loop of `print_report`.
 pub fn roll_batch(batch: &[u8]) -> bool {
     let mut registers = [0u8; 65536];
     let mut sparse = [0u32; 16384];
@@ -74,5 +74,5 @@ pub fn roll_batch(batch: &[u8]) -> bool {
         &mut spare,
         &mut out,
     );
-    print_report(r, &answers, &out)
+    print_report(batch, r, &answers, &out)
 }

@@ -80,10 +80,11 @@ pub(crate) fn put_numbers(text: &mut [u8], at: usize, a: Accumulator, not_zero: 
     requires { ⌜ at + 88 ≤ length (now text) ⌝ }
     ensures { λ r. ⌜ PutPost (now (text .entry)) at (numbersOf a «not_zero») r (now (text .exit)) ⌝ }
 {
+    let registers = counted(not_zero);
     let second = put_number(text, at, a.precision as u64, b' ');
     let third = put_number(text, second, output::widened(a.sparse_precision), b' ');
     let fourth = put_number(text, third, a.num_values, b' ');
-    put_number(text, fourth, counted(not_zero), b'\n')
+    put_number(text, fourth, registers, b'\n')
 }
 
 // Where a piece of the text begins: at the line of the record that comes after so many; at what follows those lines; at so many bytes into the state,

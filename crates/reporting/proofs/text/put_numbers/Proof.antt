@@ -10,6 +10,9 @@ use borrow.Author.Needs.{needs}
 use Rattle.reporting.proofs.text.put_numbers.Statement.{statement}
 use Rattle.reporting.proofs.text.put_numbers.Tie as tie
 
+counted-requires : tie.Need-counted-requires
+counted-requires c κs = search needs
+
 cast-put-number : tie.Need-cast-put-number
 cast-put-number c = search needs
 
@@ -20,16 +23,13 @@ widened-requires : tie.Need-widened-requires
 widened-requires c κs = search needs
 
 put-number-requires-2 : tie.Need-put-number-requires-2
-put-number-requires-2 c κs = omega (arith, c .before .before .before .before .put-number .ensures .next, c .before .before .before .before .put-number .kept .0, number-length (c .before .before .before .before .before .before .before .before .args .a .precision) 32)
+put-number-requires-2 c κs = omega (arith, c .before .before .before .before .put-number .ensures .next, c .before .before .before .before .put-number .kept .0, number-length (c .before .before .before .before .before .before .before .before .before .args .a .precision) 32)
 
 put-number-requires-3 : tie.Need-put-number-requires-3
-put-number-requires-3 c κs = omega (arith, c .before .before .before .before .before .before .before .before .put-number .ensures .next, c .before .before .before .before .before .before .before .before .put-number .kept .0, number-length (c .before .before .before .before .before .before .before .before .before .before .before .before .args .a .precision) 32, c .before .before .before .put-number2 .ensures .next, c .before .before .before .put-number2 .kept .0, number-length (c .before .before .before .before .widened .result) 32)
-
-counted-requires : tie.Need-counted-requires
-counted-requires c κs = search needs
+put-number-requires-3 c κs = omega (arith, c .before .before .before .before .before .before .before .before .put-number .ensures .next, c .before .before .before .before .before .before .before .before .put-number .kept .0, number-length (c .before .before .before .before .before .before .before .before .before .before .before .before .before .args .a .precision) 32, c .before .before .before .put-number2 .ensures .next, c .before .before .before .put-number2 .kept .0, number-length (c .before .before .before .before .widened .result) 32)
 
 put-number-requires-4 : tie.Need-put-number-requires-4
-put-number-requires-4 c κs = omega (arith, c .before .before .before .before .before .before .before .before .before .before .before .before .before .put-number .ensures .next, c .before .before .before .before .before .before .before .before .before .before .before .before .before .put-number .kept .0, number-length (c .before .before .before .before .before .before .before .before .before .before .before .before .before .before .before .before .before .args .a .precision) 32, c .before .before .before .before .before .before .before .before .put-number2 .ensures .next, c .before .before .before .before .before .before .before .before .put-number2 .kept .0, number-length (c .before .before .before .before .before .before .before .before .before .widened .result) 32, c .before .before .before .before .put-number3 .ensures .next, c .before .before .before .before .put-number3 .kept .0, number-length (c .before .before .before .before .before .before .before .before .before .before .before .before .before .before .before .before .before .args .a .«num_values») 32)
+put-number-requires-4 c κs = omega (arith, c .before .before .before .before .before .before .before .before .before .before .before .before .put-number .ensures .next, c .before .before .before .before .before .before .before .before .before .before .before .before .put-number .kept .0, number-length (c .before .before .before .before .before .before .before .before .before .before .before .before .before .before .before .before .before .args .a .precision) 32, c .before .before .before .before .before .before .before .put-number2 .ensures .next, c .before .before .before .before .before .before .before .put-number2 .kept .0, number-length (c .before .before .before .before .before .before .before .before .widened .result) 32, c .before .before .before .put-number3 .ensures .next, c .before .before .before .put-number3 .kept .0, number-length (c .before .before .before .before .before .before .before .before .before .before .before .before .before .before .before .before .before .args .a .«num_values») 32)
 
 same-length : tie.Need-same-length
 same-length c = search needs
@@ -37,20 +37,20 @@ same-length c = search needs
 returns : tie.Need-returns
 returns c =
     let f = numbers-are (c .before .before .before .before .before .before .before .before .before .before .before .before .before .before .before .before .before .before .before .before .args .a) (c .before .before .before .before .before .before .before .before .before .before .before .before .before .before .before .before .before .before .before .before .args .not-zero) in
-    put-both (f .first) (c .before .before .before .before .before .before .before .before .before .before .before .before .before .before .before .before .put-number .ensures)
-    (put-both (f .second) (put-same (ap (λ (v : ℕ). numberText v 32) (c .before .before .before .before .before .before .before .before .before .before .before .before .widened .ensures)) (c .before .before .before .before .before .before .before .before .before .before .before .put-number2 .ensures))
-    (put-both (f .third) (c .before .before .before .before .before .before .before .put-number3 .ensures) (put-same (ap (λ (v : ℕ). numberText v 10) (c .before .before .before .counted .ensures)) (c .before .before .put-number4 .ensures))))
+    put-both (f .first) (c .before .before .before .before .before .before .before .before .before .before .before .before .before .before .before .put-number .ensures)
+    (put-both (f .second) (put-same (ap (λ (v : ℕ). numberText v 32) (c .before .before .before .before .before .before .before .before .before .before .before .widened .ensures)) (c .before .before .before .before .before .before .before .before .before .before .put-number2 .ensures))
+    (put-both (f .third) (c .before .before .before .before .before .before .put-number3 .ensures) (put-same (ap (λ (v : ℕ). numberText v 10) (c .before .before .before .before .before .before .before .before .before .before .before .before .before .before .before .before .before .before .counted .ensures)) (c .before .before .put-number4 .ensures))))
 
 pub put-numbers-spec : {M : Type 1} → statement M
 put-numbers-spec =
     tie.close
     (tie.spec
+    counted-requires
     cast-put-number
     put-number-requires
     widened-requires
     put-number-requires-2
     put-number-requires-3
-    counted-requires
     put-number-requires-4
     same-length
     returns)
