@@ -1,144 +1,61 @@
 // What is printed of a batch (document 01, "The batch"): "per record ordinal and answer; 24 or 25 prints ordinal (0 for 24) and number, and ends the
 // chain. Then p, s, value count, registers not zero; then the written state, or the writing refusal's number." Numbers are signed decimals, the
 // state is lowercase hexadecimal, and each line ends in a newline.
-ghost use Prim.Native.Nat.{_+_, _≤_};
+ghost use mathlib.Core.Path.{_≡_};
+ghost use mathlib.Core.Bool.{true};
 ghost use lib.ListN.{length};
+ghost use Rattle.reporting.specs.Text.{reportText};
+ghost use Rattle.reporting.specs.Pieces.{ReportOf, StandsAt};
+use crate::text::Place;
 use batch::closing;
-use batch::closing::Count;
 use batch::closing::Report;
-use batch::records::Ending;
-use cases::output;
 use libc::STDOUT_FILENO;
-use rollup::accumulator::Accumulator;
-use rollup::writing::Written;
 
-// Puts a number in decimal and the byte after it, a blank or a newline, and answers the position past them.
-fn put_number(text: &mut [u8], at: usize, v: u64, end: u8) -> usize
-    requires { ⌜ at + 22 ≤ length (now text) ⌝ }
-    ensures { λ r. ⌜ r ≤ at + 22 ⌝ }
+mod text;
+
+// Hands a piece of the text over. That the text is that of the batch's report, and the piece what it has at the byte `done`, is what this asks; what
+// reaches the descriptor no contract can say.
+fn hand_over(batch: &[u8], r: Report, answers: &[u8], out: &[u8], done: usize, piece: &[u8]) -> bool
+    requires { ⌜ (ReportOf (now batch) r (now answers) (now out)) × (StandsAt (reportText r (now answers) (now out)) done (now piece)) ⌝ }
 {
-    let most = at + 21;
-    let n = at + output::signed(v, &mut text[at..most]);
-    text[n] = end;
-    n + 1
+    io::write_all(STDOUT_FILENO, piece)
 }
 
-// A line with an ordinal and a number.
-fn put_answer(text: &mut [u8], at: usize, ordinal: usize, answer: u8) -> usize
-    requires { ⌜ at + 44 ≤ length (now text) ⌝ }
-    ensures { λ r. ⌜ r ≤ at + 44 ⌝ }
+// That nothing of the text is left is what this asks.
+fn all_done(r: Report, answers: &[u8], out: &[u8], done: usize) -> bool
+    requires { ⌜ done ≡ length (reportText r (now answers) (now out)) ⌝ }
+    ensures { λ b. ⌜ b ≡ true ⌝ }
 {
-    let next = put_number(text, at, ordinal as u64, b' ');
-    put_number(text, next, answer as u64, b'\n')
+    true
 }
 
-// The answers of some records, of which `first` is the first one's ordinal, in one piece.
-fn print_some(answers: &[u8], first: usize) -> bool
-    requires { ⌜ (length (now answers) ≤ 93) × (first ≤ 65537) ⌝ }
+// All pieces of the text, each behind those that are done. The answer is whether all of them were written.
+fn print_report(batch: &[u8], r: Report, answers: &[u8], out: &[u8]) -> bool
+    requires { ⌜ ReportOf (now batch) r (now answers) (now out) ⌝ }
 {
-    let mut text = [0u8; 4092];
-    let mut at: usize = 0;
-    let mut i: usize = 0;
-    while i < answers.len() {
-        at = put_answer(&mut text, at, first + i, answers[i]);
-        i += 1;
-    }
-    io::write_all(STDOUT_FILENO, &text[..at])
-}
-
-// All answers: a write for each line would be a call of the system for each.
-fn print_answers(answers: &[u8]) -> bool
-    requires { ⌜ length (now answers) ≤ 65536 ⌝ }
-{
-    let mut at: usize = 0;
-    while answers.len() - at > 93 {
-        let end = at + 93;
-        if !print_some(&answers[at..end], at + 1) {
+    let mut buffer = [0u8; 4097];
+    let mut at = Place::Answers(0);
+    let mut done: usize = 0;
+    loop {
+        if let Place::End = at {
+            return all_done(r, answers, out, done);
+        }
+        let piece = text::put_piece(r, answers, out, at, &mut buffer);
+        let len = piece.len;
+        if !hand_over(batch, r, answers, out, done, &buffer[..len]) {
             return false;
         }
-        at = end;
+        at = piece.next;
+        done += len;
     }
-    print_some(&answers[at..], at + 1)
-}
-
-// A line with an ordinal and a number, printed.
-fn print_answer(ordinal: usize, answer: u8) -> bool {
-    let mut text = [0u8; 44];
-    let n = put_answer(&mut text, 0, ordinal, answer);
-    io::write_all(STDOUT_FILENO, &text[..n])
-}
-
-// The end of a chain after so many records: nothing where it ends with an index of zero. `Full` cannot come up with 65,536 cells (`never-full` of
-// `batch`).
-fn print_ending(ending: Ending, records: usize) -> bool
-    requires { ⌜ records ≤ 65536 ⌝ }
-{
-    match ending {
-        Ending::Whole => true,
-        Ending::Refused(n) => {
-            if n == 24 {
-                return print_answer(0, n);
-            }
-            print_answer(records + 1, n)
-        }
-        Ending::Full => true,
-    }
-}
-
-// The number of registers that are not zero. `Short` cannot come up: the piece lent for a list's registers is as long as the registers.
-fn counted(count: Count) -> u64 {
-    match count {
-        Count::Registers(n) => n as u64,
-        Count::Short => 0,
-    }
-}
-
-// p, s, value count, registers not zero.
-fn print_numbers(a: Accumulator, not_zero: Count) -> bool {
-    let mut text = [0u8; 88];
-    let second = put_number(&mut text, 0, a.precision as u64, b' ');
-    let third = put_number(&mut text, second, output::widened(a.sparse_precision), b' ');
-    let fourth = put_number(&mut text, third, a.num_values, b' ');
-    let end = put_number(&mut text, fourth, counted(not_zero), b'\n');
-    io::write_all(STDOUT_FILENO, &text[..end])
-}
-
-// The written state, or the number of the refusal.
-fn print_state(written: Written, out: &[u8]) -> bool
-    requires { ⌜ written .len ≤ length (now out) ⌝ }
-{
-    if written.answer != 0 {
-        let mut text = [0u8; 22];
-        let n = put_number(&mut text, 0, written.answer as u64, b'\n');
-        return io::write_all(STDOUT_FILENO, &text[..n]);
-    }
-    if !output::print_hex(STDOUT_FILENO, &out[..written.len]) {
-        return false;
-    }
-    io::write_all(STDOUT_FILENO, b"\n")
-}
-
-// All lines, in order. The answer is whether all of them were written.
-fn print_report(r: Report, answers: &[u8], out: &[u8]) -> bool
-    requires { ⌜ (r .rolled .records ≤ length (now answers)) × (r .rolled .records ≤ 65536) × (r .written .len ≤ length (now out)) ⌝ }
-{
-    let rolled = r.rolled;
-    let ending = rolled.ending;
-    let not_zero = r.not_zero;
-    if !print_answers(&answers[..rolled.records]) {
-        return false;
-    }
-    if !print_ending(ending, rolled.records) {
-        return false;
-    }
-    if !print_numbers(rolled.head, not_zero) {
-        return false;
-    }
-    print_state(r.written, out)
 }
 
 // Rolls up a batch in "65,536 registers, three lists of 16,384 and 65,536 output bytes", and prints what is said of it. 65,536 cells suffice for the
 // answers, and a piece as long as the registers for those of a list. The answer is whether all was written.
+// Proved of the text, since `hand_over` and `all_done` ask it where they are called: the report, the answers and the output are those that `roll` promises
+// of this batch in this memory (`ReportOf`); a piece that is handed to `io::write_all` is, byte for byte, what their text, `reportText`, has at the byte
+// `done`; and where the pieces end, `done` is the text's length. Not proved, since no contract can say it: which bool `io::write_all` answers, what
+// reaches standard output, and that a piece is handed over once, before `done` moves past it. The last is to be read in the loop of `print_report`.
 pub fn roll_batch(batch: &[u8]) -> bool {
     let mut registers = [0u8; 65536];
     let mut sparse = [0u32; 16384];
@@ -157,5 +74,5 @@ pub fn roll_batch(batch: &[u8]) -> bool {
         &mut spare,
         &mut out,
     );
-    print_report(r, &answers, &out)
+    print_report(batch, r, &answers, &out)
 }

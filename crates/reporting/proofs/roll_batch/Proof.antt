@@ -1,6 +1,5 @@
--- There are no more records than cells, and what was written lies inside the output.
-use native.Mathlib.Omega.{arith}
-use Rattle.batch.proofs.ClosingLaws.{few-records, written-inside}
+-- `roll_batch` prints the report that `roll` promises of what it is lent.
+use mathlib.Core.Path.{_∙_}
 use borrow.Author.Needs.{needs}
 use Rattle.reporting.proofs.roll_batch.Statement.{statement}
 use Rattle.reporting.proofs.roll_batch.Tie as tie
@@ -37,10 +36,21 @@ slice-aggregate-print-report-2 c = search needs
 
 print-report-requires : tie.Need-print-report-requires
 print-report-requires c κs =
-    let e = c .before .before .before .before .before .before .before .before .before .roll .ensures in
-    let few = few-records e in
-    let cells = c .before .before .before .before .before .before .before .before .before .roll .kept .1 .1 .1 .1 .1 .0 in
-    (omega (arith, few, cells), omega (arith, few), written-inside e)
+    let k = c .before .before .before .before .before .before .before .before .before .roll .kept in
+    record {
+      first = _;
+      last = _;
+      room = _;
+      space = _;
+      cells = _;
+      bytes = _;
+      post = c .before .before .before .before .before .before .before .before .before .roll .ensures;
+      registers-lent = search needs;
+      lists-lent = (search needs, search needs, search needs);
+      spare-lent = search needs;
+      cells-lent = (search needs, k .1 .1 .1 .1 .1 .0 ∙ search needs);
+      output-lent = (search needs, k .1 .1 .1 .1 .1 .1 .1 .0 ∙ search needs);
+    }
 
 returns : tie.Need-returns
 returns c = search needs

@@ -1,0 +1,149 @@
+-- Laws of numbers as text: `signedText` is the one text that `Signed` of `cases` allows, and is no longer than 21 bytes.
+use mathlib.Core.Path.{_≡_, refl, sym, ap, _∙_, subst}
+use mathlib.Core.List.{List, [], _∷_, _++_}
+use mathlib.Core.Logic.{⊎-elim}
+use mathlib.Core.Bool.{Bool}
+use Prim.Native.Nat.{ℕ, zero, suc, _+_, _*_, _-_, _/_, _%_, _^_, _≤_, _<_}
+use native.Mathlib.Nat.{pow-suc, pow-le-pow-right}
+use native.Mathlib.Numerals.{add-one}
+use native.Mathlib.Omega.{arith}
+use lib.ListN.{length, take, drop, length-append, take-append-drop}
+use borrow.Author.Tests.{lt-ltb, le-ltb}
+use Rattle.io.specs.Digits.{glyph, digits, Fewest}
+use Rattle.cases.specs.Output.{Decimal, SignedBy, Signed}
+use Rattle.cases.proofs.InputLaws.{side}
+use Rattle.reporting.specs.Numbers.{figures, decimalText, signedText, numberText}
+
+-- ---- the digits
+
+pub digits-length : (k n : ℕ) → length (digits 10 k n) ≡ k
+digits-length zero n = refl
+digits-length (suc k) n =
+    length-append (digits 10 k (n / 10)) (glyph (n % 10) ∷ []) ∙ ap (λ (m : ℕ). m + 1) (digits-length k (n / 10)) ∙ add-one k
+
+figures-one : (k n : ℕ) → n < 10 → figures (suc k) n ≡ 1
+unfolding figures
+figures-one k n h = rw (lt-ltb n 10 h)
+
+figures-more : (k n : ℕ) → 10 ≤ n → figures (suc k) n ≡ 1 + figures k (n / 10)
+unfolding figures
+figures-more k n h = rw (le-ltb n 10 h)
+
+figures-few : (k n : ℕ) → figures k n ≤ k
+unfolding figures
+figures-few zero n = omega arith
+figures-few (suc k) n =
+    ⊎-elim
+    (λ (h : n < 10). let e = figures-one k n h in omega arith)
+    (λ (h : 10 ≤ n). let e = figures-more k n h in let i = figures-few k (n / 10) in omega arith)
+    (side n 10)
+
+-- One digit more, of a number that has at least two.
+one-more : (n m : ℕ) → 10 ≤ n → Fewest 10 1 (n / 10) m → Fewest 10 1 n (1 + m)
+one-more n m h f = (omega arith, below, least)
+  where
+    power : (k : ℕ) → 10 ^ (1 + k) ≡ 10 ^ k * 10
+    power k = ap (λ (j : ℕ). 10 ^ j) (let e : 1 + k ≡ suc k = omega arith in e) ∙ pow-suc 10 k
+
+    below : n < 10 ^ (1 + m)
+    below = let b : n / 10 < 10 ^ m = f .1 in omega (arith, power m)
+
+    least : 1 < 1 + m → 10 ^ (1 + m - 1) ≤ n
+    least l =
+        let same : 1 + m - 1 ≡ m = omega arith in
+        subst (λ (j : ℕ). 10 ^ j ≤ n) (sym same)
+        (⊎-elim
+        (λ (g : 1 < m).
+        let t : 10 ^ (m - 1) ≤ n / 10 = f .2 g in
+        let e : 10 ^ m ≡ 10 ^ (m - 1) * 10 = ap (λ (j : ℕ). 10 ^ j) (let e : m ≡ 1 + (m - 1) = omega arith in e) ∙ power (m - 1) in
+        omega arith)
+        (λ (g : m ≤ 1). let e : 10 ^ m ≡ 10 ^ 1 = ap (λ (j : ℕ). 10 ^ j) (let e : m ≡ 1 = omega arith in e) in omega arith)
+        (side 1 m))
+
+one-digit : (k n : ℕ) → n < 10 → Fewest 10 1 n (figures (suc k) n)
+one-digit k n h = subst (Fewest 10 1 n) (sym (figures-one k n h)) (omega arith, omega arith, λ (t : 1 < 1). absurd (let z : ⊥ = omega arith in z))
+
+pub figures-fewest : (k n : ℕ) → n < 10 ^ suc k → Fewest 10 1 n (figures (suc k) n)
+figures-fewest zero n h = let e : 10 ^ suc 0 ≡ 10 = refl in one-digit 0 n (omega arith)
+figures-fewest (suc k) n h =
+    ⊎-elim
+    (one-digit (suc k) n)
+    (λ (l : 10 ≤ n).
+    let e = pow-suc 10 (suc k) in
+    subst (Fewest 10 1 n) (sym (figures-more (suc k) n l)) (one-more n (figures (suc k) (n / 10)) l (figures-fewest k (n / 10) (omega arith))))
+    (side n 10)
+
+-- As few digits as hold n: there is one such number.
+fewest-le : (n a b : ℕ) → Fewest 10 1 n a → Fewest 10 1 n b → b ≤ a
+fewest-le n a b f g =
+    ⊎-elim
+    (λ (l : a < b).
+    let p : 10 ^ a ≤ 10 ^ (b - 1) = pow-le-pow-right {n = 10} (omega arith) {i = a} {j = b - 1} (omega arith) in
+    let q : 10 ^ (b - 1) ≤ n = g .2 (let o : 1 ≤ a = f .0 in omega arith) in
+    let s : n < 10 ^ a = f .1 in
+    absurd (let z : ⊥ = omega arith in z))
+    (λ (l : b ≤ a). l)
+    (side a b)
+
+pub fewest-one : (n a b : ℕ) → Fewest 10 1 n a → Fewest 10 1 n b → a ≡ b
+fewest-one n a b f g = let p = fewest-le n a b f g in let q = fewest-le n b a g f in omega arith
+
+-- ---- decimal and signed text
+
+pub decimal-is : (n : ℕ) → n < 10 ^ 20 → Decimal n (decimalText n)
+decimal-is n h =
+    let e : figures 20 n ≡ length (decimalText n) = sym (digits-length (figures 20 n) n) in
+    record { figures = ap (λ (k : ℕ). digits 10 k n) e; fewest = subst (Fewest 10 1 n) e (figures-fewest 19 n h) }
+
+pub decimal-one : (n : ℕ) (t : List ℕ) → n < 10 ^ 20 → Decimal n t → t ≡ decimalText n
+decimal-one n t h d = d .figures ∙ ap (λ (k : ℕ). digits 10 k n) (fewest-one n (length t) (figures 20 n) (d .fewest) (figures-fewest 19 n h))
+
+module _ (v : ℕ) where
+  signed-low : v < 2 ^ 63 → signedText v ≡ decimalText v
+  unfolding signedText
+  signed-low h = rw (lt-ltb v (2 ^ 63) h)
+
+  signed-high : 2 ^ 63 ≤ v → signedText v ≡ 45 ∷ decimalText (2 ^ 64 - v)
+  unfolding signedText
+  signed-high h = rw (le-ltb v (2 ^ 63) h)
+
+  -- `signedText` is a text that `Signed` allows ..
+  pub signed-is : v < 2 ^ 64 → Signed v (signedText v)
+  signed-is h =
+      ⊎-elim
+      (λ (l : v < 2 ^ 63).
+      subst (λ (b : Bool). SignedBy b v (signedText v)) (sym (lt-ltb v (2 ^ 63) l))
+      (subst (Decimal v) (sym (signed-low l)) (decimal-is v (omega arith))))
+      (λ (l : 2 ^ 63 ≤ v).
+      subst (λ (b : Bool). SignedBy b v (signedText v)) (sym (le-ltb v (2 ^ 63) l))
+      (subst (λ (t : List ℕ). (take 1 t ≡ 45 ∷ []) × Decimal (2 ^ 64 - v) (drop 1 t)) (sym (signed-high l))
+      (refl, decimal-is (2 ^ 64 - v) (omega arith))))
+      (side v (2 ^ 63))
+
+  -- .. and the only one.
+  pub signed-one : (t : List ℕ) → v < 2 ^ 64 → Signed v t → t ≡ signedText v
+  signed-one t h s =
+      ⊎-elim
+      (λ (l : v < 2 ^ 63).
+      decimal-one v t (omega arith) (subst (λ (b : Bool). SignedBy b v t) (lt-ltb v (2 ^ 63) l) s) ∙ sym (signed-low l))
+      (λ (l : 2 ^ 63 ≤ v).
+      let m = subst (λ (b : Bool). SignedBy b v t) (le-ltb v (2 ^ 63) l) s in
+      sym (take-append-drop 1 t)
+      ∙ ap (λ (f : List ℕ). f ++ drop 1 t) (m .0)
+      ∙ ap (λ (f : List ℕ). 45 ∷ f) (decimal-one (2 ^ 64 - v) (drop 1 t) (omega arith) (m .1))
+      ∙ sym (signed-high l))
+      (side v (2 ^ 63))
+
+  pub signed-length : length (signedText v) ≤ 21
+  signed-length =
+      ⊎-elim
+      (λ (l : v < 2 ^ 63). let e = ap length (signed-low l) ∙ digits-length (figures 20 v) v in let f = figures-few 20 v in omega arith)
+      (λ (l : 2 ^ 63 ≤ v).
+      let e : length (signedText v) ≡ suc (figures 20 (2 ^ 64 - v)) = ap length (signed-high l) ∙ ap suc (digits-length (figures 20 (2 ^ 64 - v)) (2 ^ 64 - v)) in
+      let f = figures-few 20 (2 ^ 64 - v) in
+      omega arith)
+      (side v (2 ^ 63))
+
+  pub number-length : (end : ℕ) → length (numberText v end) ≤ 22
+  unfolding numberText
+  number-length end = let e : length (signedText v ++ end ∷ []) ≡ length (signedText v) + 1 = length-append (signedText v) (end ∷ []) in let f = signed-length in omega arith
