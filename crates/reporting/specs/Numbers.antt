@@ -1,5 +1,5 @@
--- A number as text, with the byte behind it. `cases` says by a relation, `Signed`, which text a number has; here is the text itself. That it is the one
--- text which `Signed` allows is shown in proofs/NumberLaws (`signed-is`, `signed-one`).
+-- A number as text, with the byte behind it. `cases` says by a relation, `Signed`, which text a number has; here is the text itself. That `Signed` allows
+-- it of each number of 64 bits, and no other text, is shown in proofs/NumberLaws (`signed-is`, `signed-one`).
 use mathlib.Core.List.{List, [], _∷_, _++_}
 use mathlib.Core.Bool.{cond}
 use Prim.Native.Nat.{ℕ, zero, suc, _+_, _-_, _/_, _^_}
@@ -19,6 +19,6 @@ decimalText n = digits 10 (figures 20 n) n
 unfoldable pub signedText : ℕ → List ℕ
 signedText v = cond (ltb v (2 ^ 63)) (decimalText v) (45 ∷ decimalText (2 ^ 64 - v))
 
--- "Numbers print as signed decimals", each with a blank or a newline behind it.
+-- "Numbers are signed decimals" (docs/DECISIONS.md, "The crate `reporting`"), each with a blank or a newline behind it.
 unfoldable pub numberText : ℕ → ℕ → List ℕ
 numberText v end = signedText v ++ end ∷ []

@@ -1,5 +1,5 @@
--- The text that is printed of a batch (document 01, "The batch"), from what `batch` reports of it. A blank is 32 and a newline 10: "each line ends in a
--- newline".
+-- The text that is printed of a batch, from what `batch` reports of it. The quotes are of document 01, "The batch"; that each line ends in a newline, 10,
+-- and that the state is lowercase hexadecimal is decided in docs/DECISIONS.md, "The crate `reporting`". 32 is a blank.
 use mathlib.Core.List.{List, [], _∷_, _++_}
 use mathlib.Core.Bool.{cond}
 use Prim.Native.Nat.{ℕ, _+_}
@@ -14,7 +14,7 @@ use Rattle.batch.specs.declared.closing.Count.the-variants.{Registers, Short}
 use Rattle.batch.specs.declared.closing.Report.{Report}
 use Rattle.reporting.specs.Numbers.{numberText}
 
--- "Ordinal and answer."
+-- "Ordinal and answer", or "ordinal (0 for 24) and number".
 unfoldable pub answerLine : ℕ → ℕ → List ℕ
 answerLine ordinal answer = numberText ordinal 32 ++ numberText answer 10
 
@@ -38,10 +38,11 @@ notZeroOf Short = 0
 unfoldable pub numbersLine : ℕ → ℕ → ℕ → ℕ → List ℕ
 numbersLine p s count notZero = numberText p 32 ++ (numberText (widenedOf s) 32 ++ (numberText count 32 ++ numberText notZero 10))
 
+-- The same of a head, which has the first three.
 abbrev pub numbersOf : Accumulator → Count → List ℕ
 numbersOf a notZero = numbersLine (a .precision) (a .«sparse_precision») (a .«num_values») (notZeroOf notZero)
 
--- "Then the written state, or the writing refusal's number": "the written state is lowercase hexadecimal". 0 is no refusal.
+-- "Then the written state, or the writing refusal's number." The answer 0 is no refusal.
 unfoldable pub stateText : ℕ → List ℕ → List ℕ
 stateText answer state = cond (eqb answer 0) (hexText state ++ 10 ∷ []) (numberText answer 10)
 
