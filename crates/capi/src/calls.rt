@@ -1,7 +1,6 @@
 // The exported functions. A caller lends all memory; slices must not overlap. An answer is document 01's number: 0, or the first question that was
 // answered with no.
 ghost use mathlib.Core.Path.{_≡_};
-ghost use Prim.Native.Nat.{min};
 ghost use lib.ListN.{length, set};
 ghost use Rattle.rollup.specs.Accumulator.{mem};
 ghost use Rattle.capi.specs.Calls.{AddRowPost, WriteRowPost, FreshPost};
@@ -11,6 +10,7 @@ use crate::heads;
 use crate::heads::Head;
 use rollup::accumulator::Accumulator;
 use rollup::fitting;
+use rollup::judging;
 use rollup::writing;
 
 // Puts a fresh head into the row; 1 where it has no ten cells.
@@ -78,13 +78,6 @@ pub extern "C" fn filmoed_write(
     r.answer
 }
 
-// The smaller of two numbers.
-fn smaller(x: usize, y: usize) -> usize
-    ensures { λ r. ⌜ r ≡ min x y ⌝ }
-{
-    if x < y { x } else { y }
-}
-
 // Adds many states: `states` has them one behind the other, `ends` where each one ends, and `answers` a cell for each answer. Question 1 is asked once.
 #[no_mangle]
 pub extern "C" fn filmoed_fold(
@@ -106,7 +99,7 @@ pub extern "C" fn filmoed_fold(
     if !fitting::fits(a, &registers[..], &sparse[..], &pending[..]) {
         return 1;
     }
-    let k = smaller(ends.len(), answers.len());
+    let k = judging::least(ends.len(), answers.len());
     let r = folding::fold_states(
         a,
         registers,

@@ -13,8 +13,8 @@ pub struct Sparse {
     pub rho_encoded_flag: u32,
 }
 
-// The larger of two precisions.
-fn later(a: u32, b: u32) -> u32
+// The larger of two numbers.
+pub(crate) fn larger(a: u32, b: u32) -> u32
     ensures { λ r. ⌜ r ≡ max a b ⌝ }
 {
     if a < b { b } else { a }
@@ -25,7 +25,7 @@ impl Sparse {
         requires { ⌜ Pair «normal_precision» «sparse_precision» ⌝ }
         ensures { λ r. ⌜ NewPost «normal_precision» «sparse_precision» r ⌝ }
     {
-        let bit = later(sparse_precision, normal_precision + 6);
+        let bit = larger(sparse_precision, normal_precision + 6);
         Sparse {
             normal_precision,
             sparse_precision,

@@ -46,14 +46,14 @@ same-length-5 c = search needs
 returns-2 : tie.Need-returns-2
 returns-2 c = let o = c .before .before .before .before .before .before .before .before .before .before .before .before .before .before .before .before .before .before in fold-unfit (now (o .args .head)) (mem (now (o .args .registers)) (now (o .args .sparse)) (now (o .args .pending))) (length (now (o .args .scratch))) (now (o .args .states)) (now (o .args .ends)) (now (o .args .answers)) (c .before .before .before .before .before .before .h .given .0 .0) (found (now (o .args .head)) (c .before .before .before .before .before .before .before .before .read-head .result) (c .before .before .before .before .before .before .h .given .0 .0) (c .before .before .before .before .before .before .before .before .read-head .ensures) (c .before .before .before .before .before .before .h .given .1)) (said-no (c .before .fits2 .ensures) (c .if1 .taken))
 
-smaller-requires : tie.Need-smaller-requires
-smaller-requires c κs = search needs
+least-requires : tie.Need-least-requires
+least-requires c κs = search needs
 
 slice-aggregate-fold-states : tie.Need-slice-aggregate-fold-states
-slice-aggregate-fold-states c = let o = c .before .before .before .before .before .before .before .before .before .before .before .before .before .before .before .before .before .before .before .before .before .before .before .before in sym (length-take-le (c .before .before .before .before .before .smaller .result) (now (o .args .ends)) (omega (arith, c .before .before .before .before .before .smaller .ensures, min-le-left (length (now (o .args .ends))) (length (now (o .args .answers))))))
+slice-aggregate-fold-states c = let o = c .before .before .before .before .before .before .before .before .before .before .before .before .before .before .before .before .before .before .before .before .before .before .before .before in sym (length-take-le (c .before .before .before .before .before .least .result) (now (o .args .ends)) (omega (arith, c .before .before .before .before .before .least .ensures, min-le-left (length (now (o .args .ends))) (length (now (o .args .answers))))))
 
 fold-states-requires : tie.Need-fold-states-requires
-fold-states-requires c κs = let o = c .before .before .before .before .before .before .before .before .before .before .before .before .before .before .before .before .before .before .before .before .before .before .before .before .before in fold-pre (now (o .args .head)) (mem (now (o .args .registers)) (now (o .args .sparse)) (now (o .args .pending))) (length (now (o .args .scratch))) (now (o .args .states)) (now (o .args .ends)) (now (o .args .answers)) (c .before .before .before .before .before .before .before .before .before .before .before .before .before .h .given .0 .0) (found (now (o .args .head)) (c .before .before .before .before .before .before .before .before .before .before .before .before .before .before .before .read-head .result) (c .before .before .before .before .before .before .before .before .before .before .before .before .before .h .given .0 .0) (c .before .before .before .before .before .before .before .before .before .before .before .before .before .before .before .read-head .ensures) (c .before .before .before .before .before .before .before .before .before .before .before .before .before .h .given .1)) (c .before .before .before .before .before .before .smaller .result) (said-yes (c .before .before .before .before .before .before .before .before .fits2 .ensures) (c .before .before .before .before .before .before .before .if1 .left)) (c .before .before .before .before .before .before .smaller .ensures)
+fold-states-requires c κs = let o = c .before .before .before .before .before .before .before .before .before .before .before .before .before .before .before .before .before .before .before .before .before .before .before .before .before in fold-pre (now (o .args .head)) (mem (now (o .args .registers)) (now (o .args .sparse)) (now (o .args .pending))) (length (now (o .args .scratch))) (now (o .args .states)) (now (o .args .ends)) (now (o .args .answers)) (c .before .before .before .before .before .before .before .before .before .before .before .before .before .h .given .0 .0) (found (now (o .args .head)) (c .before .before .before .before .before .before .before .before .before .before .before .before .before .before .before .read-head .result) (c .before .before .before .before .before .before .before .before .before .before .before .before .before .h .given .0 .0) (c .before .before .before .before .before .before .before .before .before .before .before .before .before .before .before .read-head .ensures) (c .before .before .before .before .before .before .before .before .before .before .before .before .before .h .given .1)) (c .before .before .before .before .before .before .least .result) (said-yes (c .before .before .before .before .before .before .before .before .fits2 .ensures) (c .before .before .before .before .before .before .before .if1 .left)) (c .before .before .before .before .before .before .least .ensures)
 
 put-head-requires : tie.Need-put-head-requires
 put-head-requires c κs = let o = c .before .before .before .before .before .before .before .before .before .before .before .before .before .before .before .before .before .before .before .before .before .before .before .before .before .before .before .before .before .before .before .before .before .before .before .before .before in ten-cells (now (o .args .head)) (c .before .before .before .before .before .before .before .before .before .before .before .before .before .before .before .before .before .before .before .before .before .before .before .before .before .h .given .0 .0) (found (now (o .args .head)) (c .before .before .before .before .before .before .before .before .before .before .before .before .before .before .before .before .before .before .before .before .before .before .before .before .before .before .before .read-head .result) (c .before .before .before .before .before .before .before .before .before .before .before .before .before .before .before .before .before .before .before .before .before .before .before .before .before .h .given .0 .0) (c .before .before .before .before .before .before .before .before .before .before .before .before .before .before .before .before .before .before .before .before .before .before .before .before .before .before .before .read-head .ensures) (c .before .before .before .before .before .before .before .before .before .before .before .before .before .before .before .before .before .before .before .before .before .before .before .before .before .h .given .1))
@@ -77,7 +77,7 @@ same-length-11 : tie.Need-same-length-11
 same-length-11 c = search needs
 
 returns-3 : tie.Need-returns-3
-returns-3 c = let o = c .before .before .before .before .before .before .before .before .before .before .before .before .before .before .before .before .before .before .before .before .before .before .before .before .before .before .before .before .before .before .before .before .before .before .before .before .before .before .before .before in fold-found (now (o .args .head)) (mem (now (o .args .registers)) (now (o .args .sparse)) (now (o .args .pending))) (length (now (o .args .scratch))) (now (o .args .states)) (now (o .args .ends)) (now (o .args .answers)) (c .before .before .before .before .before .before .before .before .before .before .before .before .before .before .before .before .before .before .before .before .before .before .before .before .before .before .before .before .h .given .0 .0) (found (now (o .args .head)) (c .before .before .before .before .before .before .before .before .before .before .before .before .before .before .before .before .before .before .before .before .before .before .before .before .before .before .before .before .before .before .read-head .result) (c .before .before .before .before .before .before .before .before .before .before .before .before .before .before .before .before .before .before .before .before .before .before .before .before .before .before .before .before .h .given .0 .0) (c .before .before .before .before .before .before .before .before .before .before .before .before .before .before .before .before .before .before .before .before .before .before .before .before .before .before .before .before .before .before .read-head .ensures) (c .before .before .before .before .before .before .before .before .before .before .before .before .before .before .before .before .before .before .before .before .before .before .before .before .before .before .before .before .h .given .1)) (c .before .before .before .before .before .before .before .before .before .before .before .before .before .before .before .before .before .before .before .before .before .smaller .result) (c .before .before .before .before .before .before .before .before .before .before .before .before .before .before .fold-states .result) (mem (c .before .before .before .before .before .before .before .before .before .before .before .before .before .before .fold-states .last .1 .0) (c .before .before .before .before .before .before .before .before .before .before .before .before .before .before .fold-states .last .1 .1 .0) (c .before .before .before .before .before .before .before .before .before .before .before .before .before .before .fold-states .last .1 .1 .1 .0)) (c .before .before .before .before .before .before .before .before .before .before .before .before .before .before .fold-states .last .1 .1 .1 .1 .1 .1 .1 .0) (c .before .before .put-head .last .0) (said-yes (c .before .before .before .before .before .before .before .before .before .before .before .before .before .before .before .before .before .before .before .before .before .before .before .fits2 .ensures) (c .before .before .before .before .before .before .before .before .before .before .before .before .before .before .before .before .before .before .before .before .before .before .if1 .left)) (c .before .before .before .before .before .before .before .before .before .before .before .before .before .before .before .before .before .before .before .before .before .smaller .ensures) (c .before .before .before .before .before .before .before .before .before .before .before .before .before .before .fold-states .ensures) (c .before .before .put-head .ensures)
+returns-3 c = let o = c .before .before .before .before .before .before .before .before .before .before .before .before .before .before .before .before .before .before .before .before .before .before .before .before .before .before .before .before .before .before .before .before .before .before .before .before .before .before .before .before in fold-found (now (o .args .head)) (mem (now (o .args .registers)) (now (o .args .sparse)) (now (o .args .pending))) (length (now (o .args .scratch))) (now (o .args .states)) (now (o .args .ends)) (now (o .args .answers)) (c .before .before .before .before .before .before .before .before .before .before .before .before .before .before .before .before .before .before .before .before .before .before .before .before .before .before .before .before .h .given .0 .0) (found (now (o .args .head)) (c .before .before .before .before .before .before .before .before .before .before .before .before .before .before .before .before .before .before .before .before .before .before .before .before .before .before .before .before .before .before .read-head .result) (c .before .before .before .before .before .before .before .before .before .before .before .before .before .before .before .before .before .before .before .before .before .before .before .before .before .before .before .before .h .given .0 .0) (c .before .before .before .before .before .before .before .before .before .before .before .before .before .before .before .before .before .before .before .before .before .before .before .before .before .before .before .before .before .before .read-head .ensures) (c .before .before .before .before .before .before .before .before .before .before .before .before .before .before .before .before .before .before .before .before .before .before .before .before .before .before .before .before .h .given .1)) (c .before .before .before .before .before .before .before .before .before .before .before .before .before .before .before .before .before .before .before .before .before .least .result) (c .before .before .before .before .before .before .before .before .before .before .before .before .before .before .fold-states .result) (mem (c .before .before .before .before .before .before .before .before .before .before .before .before .before .before .fold-states .last .1 .0) (c .before .before .before .before .before .before .before .before .before .before .before .before .before .before .fold-states .last .1 .1 .0) (c .before .before .before .before .before .before .before .before .before .before .before .before .before .before .fold-states .last .1 .1 .1 .0)) (c .before .before .before .before .before .before .before .before .before .before .before .before .before .before .fold-states .last .1 .1 .1 .1 .1 .1 .1 .0) (c .before .before .put-head .last .0) (said-yes (c .before .before .before .before .before .before .before .before .before .before .before .before .before .before .before .before .before .before .before .before .before .before .before .fits2 .ensures) (c .before .before .before .before .before .before .before .before .before .before .before .before .before .before .before .before .before .before .before .before .before .before .if1 .left)) (c .before .before .before .before .before .before .before .before .before .before .before .before .before .before .before .before .before .before .before .before .before .least .ensures) (c .before .before .before .before .before .before .before .before .before .before .before .before .before .before .fold-states .ensures) (c .before .before .put-head .ensures)
 
 pub filmoed-fold-spec : {M : Type 1} → statement M
 filmoed-fold-spec =
@@ -94,7 +94,7 @@ filmoed-fold-spec =
     same-length-4
     same-length-5
     returns-2
-    smaller-requires
+    least-requires
     slice-aggregate-fold-states
     fold-states-requires
     put-head-requires

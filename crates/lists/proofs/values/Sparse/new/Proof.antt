@@ -4,17 +4,17 @@ use borrow.Author.Needs.{needs}
 use Rattle.lists.proofs.values.Sparse.new.Statement.{statement}
 use Rattle.lists.proofs.values.Sparse.new.Tie as tie
 
-add-later : tie.Need-add-later
-add-later c = search needs
+add-larger : tie.Need-add-larger
+add-larger c = search needs
 
-later-requires : tie.Need-later-requires
-later-requires c κs = search needs
+larger-requires : tie.Need-larger-requires
+larger-requires c κs = search needs
 
 shl-t4 : tie.Need-shl-t4
 shl-t4 c = search needs
 
 returns : tie.Need-returns
-returns c = let o = c .before in new-post (o .args .normal-precision) (o .args .sparse-precision) (c .later .result) (o .pre) (c .later .ensures)
+returns c = let o = c .before in new-post (o .args .normal-precision) (o .args .sparse-precision) (c .larger .result) (o .pre) (c .larger .ensures)
 
 pub new-spec : {M : Type 1} → statement M
-new-spec = tie.close (tie.spec add-later later-requires shl-t4 returns)
+new-spec = tie.close (tie.spec add-larger larger-requires shl-t4 returns)
