@@ -161,6 +161,15 @@ unfoldable pub distinctSlots : ℕ → ℕ → List ℕ → Bool
 distinctSlots p s [] = true
 distinctSlots p s (x ∷ l) = cond (sameSlotFirst p s x l) false (distinctSlots p s l)
 
+-- Whether neighbours differ without their low d bits.
+abbrev pub alikeFirst : ℕ → ℕ → List ℕ → Bool
+alikeFirst d x [] = false
+alikeFirst d x (y ∷ l) = eqb (x / 2 ^ d) (y / 2 ^ d)
+
+unfoldable pub apartBy : ℕ → List ℕ → Bool
+apartBy d [] = true
+apartBy d (x ∷ l) = cond (alikeFirst d x l) false (apartBy d l)
+
 -- ---- inserting
 
 -- What a change of the first values, a, into b answers and leaves. One change adds no more than two gaps.

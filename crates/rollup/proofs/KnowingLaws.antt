@@ -11,8 +11,6 @@ use lib.ListN.{length, take}
 use borrow.Author.Tests.{le-leb, lt-leb, eq-eqb, ne-eqb, eqb-true, eqb-false}
 use Rattle.wire.specs.State.{State}
 use Rattle.wire.proofs.BoolLaws.{both-true, never}
-use Rattle.lists.specs.declared.values.Sparse.{Sparse as Encoding}
-use Rattle.lists.specs.Values.{NewPost}
 use Rattle.lists.specs.Lists.{merged, distinctSlots}
 use Rattle.lists.proofs.MergeLaws.{merged-distinct}
 use Rattle.rollup.specs.declared.accumulator.Form.{Form}
@@ -23,42 +21,25 @@ use Rattle.rollup.specs.Accumulator.{Mem, keptOf, waitingOf, limit, fits
 use Rattle.rollup.specs.Header.{dataOf, listOf, isEmpty}
 use Rattle.rollup.specs.Adding.{After, unchanged, settle, waits, listAfter, sparseAfter, acceptedAfter, Shows, AddPost}
 use Rattle.rollup.specs.Calls.{stateIn, valuesIn}
-use Rattle.rollup.specs.Fitting.{rangesFit}
 use Rattle.rollup.specs.SparsePaths.{KnownDistinct}
-use Rattle.rollup.specs.Knowing.{listDistinct, keptDistinct, lookedAt, listStill, stillDistinct}
-use Rattle.rollup.proofs.SparseLaws.{at-pair}
+use Rattle.rollup.specs.Knowing.{LookPre, keptDistinct, lookedAt, listStill, stillDistinct}
+use Rattle.rollup.proofs.FitLaws.{fit-sparse}
 use Rattle.rollup.proofs.WaysLaws.{settle-ways, list-ways, sparse-ways}
 use Rattle.rollup.proofs.ViewLaws.{IsRefused, IsAccepted, add-view}
 
 -- A list that was looked at.
 kept-known : (f : Form) (a : Accumulator) (sparse : List ℕ) → KnownDistinct (keptDistinct f a sparse) (a .precision) (a .«sparse_precision») (take (a .«sparse_len») sparse)
 kept-known Unstarted a sparse e = never e
-kept-known Sparse a sparse e =
-    both-true (rangesFit (a .precision) (a .«sparse_precision») && leb (a .«sparse_len») (length sparse))
-    (distinctSlots (a .precision) (a .«sparse_precision») (take (a .«sparse_len») sparse)) e .1
+kept-known Sparse a sparse e = e
 kept-known Dense a sparse e = never e
+
+-- A head that fits has a list that can be looked at.
+pub look-fits : (a : Accumulator) (m : Mem) → fits a m ≡ true → LookPre a (m .sparse)
+look-fits a m e f = let x = fit-sparse a m e f in record { pair = x .pair; inside = x .kept-in; order = x .order; allowed = x .kept-valid }
 
 -- ---- the code's questions
 
 module _ (a : Accumulator) (sparse : List ℕ) where
-  abbrev ranges : Bool
-  ranges = rangesFit (a .precision) (a .«sparse_precision»)
-
-  abbrev slots : Bool
-  slots = distinctSlots (a .precision) (a .«sparse_precision») (take (a .«sparse_len») sparse)
-
-  pub asked-ranges : ranges ≡ false → false ≡ listDistinct a sparse
-  asked-ranges e = sym (ap (λ (b : Bool). b && leb (a .«sparse_len») (length sparse) && slots) e)
-
-  pub asked-inside : ranges ≡ true → length sparse < a .«sparse_len» → false ≡ listDistinct a sparse
-  asked-inside e h = sym (ap (λ (b : Bool). b && leb (a .«sparse_len») (length sparse) && slots) e ∙ ap (λ (b : Bool). b && slots) (lt-leb (a .«sparse_len») (length sparse) h))
-
-  pub asked-slots : ranges ≡ true → a .«sparse_len» ≤ length sparse → (enc : Encoding) → NewPost (a .precision) (a .«sparse_precision») enc
-      → (r : Bool) → r ≡ distinctSlots (enc .«normal_precision») (enc .«sparse_precision») (take (a .«sparse_len») sparse) → r ≡ listDistinct a sparse
-  asked-slots e h enc new r f =
-      at-pair new (λ (p s : ℕ). r ≡ distinctSlots p s (take (a .«sparse_len») sparse)) f
-      ∙ sym (ap (λ (b : Bool). b && leb (a .«sparse_len») (length sparse) && slots) e ∙ ap (λ (b : Bool). b && slots) (le-leb (a .«sparse_len») (length sparse) h))
-
   pub by-kept-form : (f g : Form) → f ≡ g → (r : Bool) → r ≡ keptDistinct g a sparse → r ≡ keptDistinct f a sparse
   by-kept-form f g e r h = h ∙ ap (λ (x : Form). keptDistinct x a sparse) (sym e)
 

@@ -1,22 +1,32 @@
 -- What a loop over many states may know of the list that is kept, from one call to the next: that it is one that a merge can leave. It saves a walk over the list
 -- where a few values are inserted, and changes no answer.
+use mathlib.Core.Path.{_≡_}
 use mathlib.Core.List.{List}
 use mathlib.Core.Bool.{Bool, true, false, cond, _&&_, not}
-use Prim.Native.Nat.{ℕ}
+use Prim.Native.Nat.{ℕ, _≤_}
 use lib.Dec.{leb, eqb}
 use lib.ListN.{length, take}
-use Rattle.lists.specs.Lists.{distinctSlots}
+use Rattle.lists.specs.Values.{Pair}
+use Rattle.lists.specs.Sorting.{ascends}
+use Rattle.lists.specs.Lists.{allValid, distinctSlots}
 use Rattle.rollup.specs.declared.accumulator.Form.{Form}
 use Rattle.rollup.specs.declared.accumulator.Form.the-variants.{Unstarted, Sparse, Dense}
 use Rattle.rollup.specs.declared.accumulator.Accumulator.{Accumulator}
-use Rattle.rollup.specs.Fitting.{rangesFit}
 
--- Looking at the list. Of one that cannot be looked at nothing is known.
+-- A list that can be looked at: what question 1 says of it. Whoever looks at one has asked.
+pub record KeptFits (a : Accumulator) (sparse : List ℕ) : Type 0 where
+  pub pair : Pair (a .precision) (a .«sparse_precision»)
+  pub inside : a .«sparse_len» ≤ length sparse
+  pub order : ascends (take (a .«sparse_len») sparse) ≡ true
+  pub allowed : allValid (a .precision) (a .«sparse_precision») (take (a .«sparse_len») sparse) ≡ true
+
+-- Of the other forms nothing is asked.
+abbrev pub LookPre : Accumulator → List ℕ → Type 0
+LookPre a sparse = a .form ≡ Sparse → KeptFits a sparse
+
+-- Looking at the list.
 abbrev pub listDistinct : Accumulator → List ℕ → Bool
-listDistinct a sparse =
-    rangesFit (a .precision) (a .«sparse_precision»)
-    && leb (a .«sparse_len») (length sparse)
-    && distinctSlots (a .precision) (a .«sparse_precision») (take (a .«sparse_len») sparse)
+listDistinct a sparse = distinctSlots (a .precision) (a .«sparse_precision») (take (a .«sparse_len») sparse)
 
 abbrev pub keptDistinct : Form → Accumulator → List ℕ → Bool
 keptDistinct Unstarted a sparse = false

@@ -28,7 +28,7 @@ fn no_lists(a: Accumulator) -> bool
 }
 
 // Whether the precisions are those that a list can have.
-pub(crate) fn ranges_fit(p: u32, s: u32) -> bool
+fn ranges_fit(p: u32, s: u32) -> bool
     ensures { λ r. ⌜ r ≡ rangesFit p s ⌝ }
 {
     if !header::check_normal_precision(p) {

@@ -2,28 +2,23 @@
 // inserted without a walk over it. The list is looked at where it may be of use, and then what was seen stays so. New: the Rust inserts without looking
 // (document 01, "Difference").
 ghost use mathlib.Core.Path.{_≡_};
-ghost use Rattle.rollup.specs.Knowing.{listDistinct, keptDistinct, lookedAt, listStill, stillDistinct};
+ghost use Rattle.rollup.specs.Knowing.{KeptFits, LookPre, listDistinct, keptDistinct, lookedAt, listStill, stillDistinct};
 use crate::accumulator::Accumulator;
 use crate::accumulator::Form;
-use crate::fitting;
 use lists::inserting;
 use lists::values::Sparse;
 
 fn list_distinct(a: Accumulator, sparse: &[u32]) -> bool
+    requires { ⌜ KeptFits a (now sparse) ⌝ }
     ensures { λ r. ⌜ r ≡ listDistinct a (now (sparse .entry)) ⌝ }
 {
-    if !fitting::ranges_fit(a.precision, a.sparse_precision) {
-        return false;
-    }
-    if sparse.len() < a.sparse_len {
-        return false;
-    }
     let enc = Sparse::new(a.precision, a.sparse_precision);
     inserting::has_distinct_slots(enc, &sparse[..a.sparse_len])
 }
 
 // Looks at the list.
 fn kept_distinct(a: Accumulator, sparse: &[u32]) -> bool
+    requires { ⌜ LookPre a (now sparse) ⌝ }
     ensures { λ r. ⌜ r ≡ keptDistinct (a .form) a (now (sparse .entry)) ⌝ }
 {
     let form = a.form;
@@ -37,6 +32,7 @@ fn kept_distinct(a: Accumulator, sparse: &[u32]) -> bool
 // What is known before a state of n bytes is added. Into a list values are inserted only where none wait, and at most 16: a state of more than 256 bytes has
 // more, as a writer spells it.
 pub fn look(a: Accumulator, sparse: &[u32], n: usize, known: bool) -> bool
+    requires { ⌜ LookPre a (now sparse) ⌝ }
     ensures { λ r. ⌜ r ≡ lookedAt a (now (sparse .entry)) n known ⌝ }
 {
     if known {

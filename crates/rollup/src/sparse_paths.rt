@@ -10,7 +10,7 @@ ghost use lib.ListN.{length, take};
 ghost use Rattle.wire.specs.State.{stateOf};
 ghost use Rattle.lists.specs.Values.{SparseFits};
 ghost use Rattle.lists.specs.Sorting.{ascends, sortOf};
-ghost use Rattle.lists.specs.Lists.{MergePost};
+ghost use Rattle.lists.specs.Lists.{allValid, MergePost};
 ghost use Rattle.lists.specs.Registers.{withRegisters, zeros, raisedBy, larger, SetListPre};
 ghost use Rattle.rollup.specs.declared.accumulator.Form.the-variants.{Sparse as ListForm};
 ghost use Rattle.rollup.specs.Accumulator.{mem};
@@ -207,7 +207,7 @@ fn merge_all(
 // "With k ≤ 16 and 16 × k ≤ kept count, it is inserted", where nothing waits and the list is one that a merge can leave. Where that is known, the list is
 // not walked.
 fn inserts(h: Accumulator, enc: Sparse, kept: &[u32], k: usize, distinct: bool) -> bool
-    requires { ⌜ SparseFits enc × KnownDistinct distinct (enc .«normal_precision») (enc .«sparse_precision») (now kept) ⌝ }
+    requires { ⌜ SparseFits enc × (ascends (now kept) ≡ true) × (allValid (enc .«normal_precision») (enc .«sparse_precision») (now kept) ≡ true) × KnownDistinct distinct (enc .«normal_precision») (enc .«sparse_precision») (now kept) ⌝ }
     ensures { λ r. ⌜ r ≡ insertsNow (enc .«normal_precision») (enc .«sparse_precision») h (now (kept .entry)) k ⌝ }
 {
     if h.pending_len != 0 {

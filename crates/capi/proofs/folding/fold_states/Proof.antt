@@ -9,7 +9,7 @@ use Rattle.wire.proofs.BoolLaws.{never}
 use Rattle.rollup.specs.Accumulator.{Mem, mem}
 use Rattle.rollup.specs.Adding.{AddPost}
 use Rattle.rollup.specs.SparsePaths.{KnownDistinct}
-use Rattle.rollup.proofs.KnowingLaws.{look-known, still-known}
+use Rattle.rollup.proofs.KnowingLaws.{look-fits, look-known, still-known}
 use Rattle.capi.proofs.FoldLaws.{Folding, fold-start, fold-turn, fold-end}
 use borrow.Author.Needs.{needs}
 use Rattle.capi.proofs.folding.fold_states.Statement.{statement}
@@ -48,7 +48,7 @@ between-requires : tie.Need-between-requires Inv-loop μ-loop
 between-requires c κs = search needs
 
 look-requires : tie.Need-look-requires Inv-loop μ-loop
-look-requires c κs = search needs
+look-requires c κs = look-fits (c .before .before .before .before .loop .head) (mem (c .before .before .before .before .loop .registers) (c .before .before .before .before .loop .sparse) (c .before .before .before .before .loop .pending)) (c .before .before .before .before .loop .inv .0 .fit)
 
 add-knowing-requires : tie.Need-add-knowing-requires Inv-loop μ-loop
 add-knowing-requires c κs =

@@ -13,7 +13,7 @@ enum-told-2 : tie.Need-enum-told-2
 enum-told-2 c = search needs
 
 list-distinct-requires : tie.Need-list-distinct-requires
-list-distinct-requires c κs = search needs
+list-distinct-requires c κs = c .before .before .before .pre (c .enum-told2 .given .1)
 
 enum-told-3 : tie.Need-enum-told-3
 enum-told-3 c = search needs

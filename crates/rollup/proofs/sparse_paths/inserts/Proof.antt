@@ -29,7 +29,7 @@ returns-4 : tie.Need-returns-4
 returns-4 c =
     let o = c .before .before .before .before .before .before .before in
     let a = o .args in
-    insert-slots (a .enc .«normal_precision») (a .enc .«sparse_precision») (a .h) (now (a .kept)) (a .k) (c .before .before .before .before .if1 .left) (c .before .before .before .if2 .left) (c .before .if3 .left) true (sym (o .pre .1 (c .if4 .taken)))
+    insert-slots (a .enc .«normal_precision») (a .enc .«sparse_precision») (a .h) (now (a .kept)) (a .k) (c .before .before .before .before .if1 .left) (c .before .before .before .if2 .left) (c .before .if3 .left) true (sym (o .pre .3 (c .if4 .taken)))
 
 has-distinct-slots-requires : tie.Need-has-distinct-slots-requires
 has-distinct-slots-requires c κs = search needs
