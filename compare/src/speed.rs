@@ -10,11 +10,20 @@ use std::time::Instant;
 
 const RUNS: usize = 101;
 
+/// With lists the runs go through so many sets of states, so that the machine's branch predictor does not know one set by heart. Of registers no branch depends on a
+/// value, and one set stays in the cache.
+const SETS: usize = 16;
+
+/// States that are added, and those that come before.
+struct Set {
+    before: Joined,
+    states: Joined,
+}
+
 /// What is timed: states added to a roll-up that others were added to before.
 struct Case {
     name: String,
-    before: Vec<Vec<u8>>,
-    states: Vec<Vec<u8>>,
+    sets: Vec<Set>,
     registers: usize,
     cells: usize,
 }
@@ -71,7 +80,6 @@ impl Joined {
 struct Both {
     rust: Accumulator,
     side: Side,
-    before: Joined,
     answers: Vec<u8>,
 }
 
@@ -80,22 +88,21 @@ impl Both {
         Both {
             rust: Accumulator::new(),
             side: Side::new(10, case.registers, case.cells, case.cells, case.cells),
-            before: Joined::new(&case.before),
-            answers: vec![0; case.before.len().max(case.states.len())],
+            answers: vec![0; case.sets.iter().map(|s| s.before.ends.len().max(s.states.ends.len())).max().expect("a set")],
         }
     }
 
-    fn start_rust(&mut self) {
+    fn start_rust(&mut self, set: &Set) {
         self.rust.reset();
-        for state in self.before.states() {
+        for state in set.before.states() {
             self.rust.add_bytes(state).expect("a sound state");
         }
     }
 
-    fn start_side(&mut self) {
+    fn start_side(&mut self, set: &Set) {
         assert_eq!(self.side.fresh(), 0);
-        assert_eq!(self.side.fold(&self.before.bytes, &self.before.ends, &mut self.answers), 0);
-        assert!(self.answers[..self.before.ends.len()].iter().all(|a| *a == 0));
+        assert_eq!(self.side.fold(&set.before.bytes, &set.before.ends, &mut self.answers), 0);
+        assert!(self.answers[..set.before.ends.len()].iter().all(|a| *a == 0));
     }
 
     /// Both wrote the same, so both did the same work.
@@ -109,15 +116,16 @@ impl Both {
 
 fn time(case: &Case) -> Times {
     let mut both = Both::new(case);
-    let joined = Joined::new(&case.states);
     let mut times: [Vec<f64>; 4] = Default::default();
     // The first runs warm up and are not counted.
     for run in 0..RUNS + 5 {
+        let set = &case.sets[run % case.sets.len()];
+        let joined = &set.states;
         for turn in 0..4 {
             let which = (run + turn) % 4;
             let t = match which {
                 0 => {
-                    both.start_rust();
+                    both.start_rust(set);
                     timed(|| {
                         for state in joined.states() {
                             black_box(both.rust.add_bytes(black_box(state)).is_ok());
@@ -125,7 +133,7 @@ fn time(case: &Case) -> Times {
                     })
                 }
                 1 => {
-                    both.start_rust();
+                    both.start_rust(set);
                     timed(|| {
                         for state in joined.states() {
                             black_box(both.rust.probe_add(black_box(state)).is_ok());
@@ -133,13 +141,13 @@ fn time(case: &Case) -> Times {
                     })
                 }
                 2 => {
-                    both.start_side();
+                    both.start_side(set);
                     timed(|| {
                         black_box(both.side.fold(black_box(&joined.bytes), &joined.ends, &mut both.answers));
                     })
                 }
                 _ => {
-                    both.start_side();
+                    both.start_side(set);
                     timed(|| {
                         for state in joined.states() {
                             black_box(both.side.add(black_box(state)));
@@ -193,12 +201,16 @@ fn list_states(chance: &mut Chance, pair: Pair, n: usize, least: u64, most: u64)
         .collect()
 }
 
-fn case(name: &str, p: i32, before: Vec<Vec<u8>>, states: Vec<Vec<u8>>) -> Case {
-    Case { name: name.to_string(), before, states, registers: 1 << p, cells: 70_000 }
+fn set(before: Vec<Vec<u8>>, states: Vec<Vec<u8>>) -> Set {
+    Set { before: Joined::new(&before), states: Joined::new(&states) }
+}
+
+fn case(name: &str, p: i32, sets: usize, mut next: impl FnMut() -> Set) -> Case {
+    Case { name: name.to_string(), sets: (0..sets).map(|_| next()).collect(), registers: 1 << p, cells: 70_000 }
 }
 
 /// 16 values, of which one is new, into a list that is just short of L bytes, so that nothing waits; and how many values the list has.
-fn inserted(chance: &mut Chance, p: i32) -> (Case, usize) {
+fn inserted_set(chance: &mut Chance, p: i32) -> (Set, usize) {
     let pair = (p, p + 5);
     let most = (3 << (p - 2)) - 75;
     let mut kept = values(chance, pair, 5 << (p - 2));
@@ -222,7 +234,18 @@ fn inserted(chance: &mut Chance, p: i32) -> (Case, usize) {
         })
         .collect();
     let n = kept.len();
-    (case(&format!("16 values into a list of {n}, inserted"), p, vec![list(pair, &kept).encode()], states), n)
+    (set(vec![list(pair, &kept).encode()], states), n)
+}
+
+/// The same as a case, named by how many values the first list has: the others have about as many.
+fn inserted(chance: &mut Chance, p: i32) -> Case {
+    let mut first = None;
+    let case = case("", p, SETS, || {
+        let (set, n) = inserted_set(chance, p);
+        first.get_or_insert(n);
+        set
+    });
+    Case { name: format!("{}", first.expect("a set")), ..case }
 }
 
 fn main_cases(chance: &mut Chance) -> Vec<Case> {
@@ -230,27 +253,25 @@ fn main_cases(chance: &mut Chance) -> Vec<Case> {
     for p in [10, 15] {
         let pair = (p, p + 5);
         let name = format!("dense into dense, p = {p}");
-        let (before, states) = (dense_states(chance, pair, 1), dense_states(chance, pair, 64));
-        all.push(case(&name, p, before, states));
+        all.push(case(&name, p, 1, || set(dense_states(chance, pair, 1), dense_states(chance, pair, 64))));
     }
     let pair = (15, 20);
     for (name, least, most) in [("lists of 1 value that wait", 1, 1), ("lists of 1 to 5 values that wait", 1, 5)] {
-        let (before, states) = (list_states(chance, pair, 1, 5, 5), list_states(chance, pair, 400, least, most));
-        all.push(case(name, 15, before, states));
+        all.push(case(name, 15, SETS, || set(list_states(chance, pair, 1, 5, 5), list_states(chance, pair, 400, least, most))));
     }
     for (name, least, most) in [("lists of 1 value into dense", 1, 1), ("lists of 1 to 16 values into dense", 1, 16)] {
-        let (before, states) = (dense_states(chance, pair, 1), list_states(chance, pair, 1000, least, most));
-        all.push(case(name, 15, before, states));
+        all.push(case(name, 15, SETS, || set(dense_states(chance, pair, 1), list_states(chance, pair, 1000, least, most))));
     }
-    all.push(inserted(chance, 15).0);
-    let (before, states) = (list_states(chance, pair, 1, 4000, 4000), list_states(chance, pair, 4, 3000, 3000));
-    all.push(case("lists of 3,000 values merged into a list of 4,000 and more", 15, before, states));
-    let (before, states) = (dense_states(chance, (12, 17), 1), dense_states(chance, (15, 20), 32));
-    all.push(case("dense of p = 15 into dense of p = 12", 15, before, states));
-    let (before, states) = (dense_states(chance, (15, 20), 1), dense_states(chance, (12, 17), 1));
-    all.push(case("dense of p = 12 into dense of p = 15, which is lowered", 15, before, states));
-    let (before, states) = (dense_states(chance, (12, 17), 1), list_states(chance, (15, 20), 1000, 1, 16));
-    all.push(case("lists of p = 15 into dense of p = 12", 15, before, states));
+    let large = inserted(chance, 15);
+    all.push(Case { name: format!("16 values into a list of {}, inserted", large.name), ..large });
+    let name = "lists of 3,000 values merged into a list of 4,000 and more";
+    all.push(case(name, 15, SETS, || set(list_states(chance, pair, 1, 4000, 4000), list_states(chance, pair, 4, 3000, 3000))));
+    let name = "dense of p = 15 into dense of p = 12";
+    all.push(case(name, 15, 1, || set(dense_states(chance, (12, 17), 1), dense_states(chance, (15, 20), 32))));
+    let name = "dense of p = 12 into dense of p = 15, which is lowered";
+    all.push(case(name, 15, 1, || set(dense_states(chance, (15, 20), 1), dense_states(chance, (12, 17), 1))));
+    let name = "lists of p = 15 into dense of p = 12";
+    all.push(case(name, 15, SETS, || set(dense_states(chance, (12, 17), 1), list_states(chance, (15, 20), 1000, 1, 16))));
     all
 }
 
@@ -295,7 +316,7 @@ fn memory(cases: &[(Case, f64)]) {
     for (case, _) in cases {
         let t = time(case);
         let mut target = vec![0; case.registers];
-        let joined = Joined::new(&case.states);
+        let joined = &case.sets[0].states;
         let copies = (0..RUNS + 5)
             .map(|_| {
                 timed(|| {
@@ -318,21 +339,23 @@ fn writing(chance: &mut Chance) {
     println!("|---|---|");
     let pair = (15, 20);
     let cases = [
-        case("dense, p = 10", 10, dense_states(chance, (10, 15), 1), vec![]),
-        case("dense, p = 15", 15, dense_states(chance, pair, 1), vec![]),
-        case("a list of 5 values", 15, list_states(chance, pair, 1, 5, 5), vec![]),
-        case("a list of 8,000 values, none waiting", 15, list_states(chance, pair, 1, 8000, 8000), vec![]),
-        case("4,000 values kept and about 1,200 waiting", 15, [list_states(chance, pair, 1, 4000, 4000), list_states(chance, pair, 400, 1, 5)].concat(), vec![]),
+        case("dense, p = 10", 10, 1, || set(dense_states(chance, (10, 15), 1), vec![])),
+        case("dense, p = 15", 15, 1, || set(dense_states(chance, pair, 1), vec![])),
+        case("a list of 5 values", 15, SETS, || set(list_states(chance, pair, 1, 5, 5), vec![])),
+        case("a list of 8,000 values, none waiting", 15, SETS, || set(list_states(chance, pair, 1, 8000, 8000), vec![])),
+        case("4,000 values kept and about 1,200 waiting", 15, SETS, || {
+            set([list_states(chance, pair, 1, 4000, 4000), list_states(chance, pair, 400, 1, 5)].concat(), vec![])
+        }),
     ];
     for case in cases {
         let mut both = Both::new(&case);
-        both.start_rust();
         let mut out = vec![0; 70_000];
         let (mut rust, mut here) = (Vec::new(), Vec::new());
         for run in 0..RUNS + 5 {
+            let set = &case.sets[run % case.sets.len()];
             // The values that wait are sorted where they stand, so they are added again before each write.
-            both.start_side();
-            both.start_rust();
+            both.start_side(set);
+            both.start_rust(set);
             let mut len = [0];
             let write = |both: &mut Both, out: &mut [u8], len: &mut [u64]| timed(|| { black_box(both.side.write(out, len)); });
             let serialize = |both: &Both| timed(|| { black_box(both.rust.serialize()); });
@@ -361,18 +384,21 @@ fn parsing(chance: &mut Chance) {
     println!("\n| parsing alone | `filmoed_fold`, 7 / `StateView::parse` | as many states without bytes, 8 / `StateView::parse` |");
     println!("|---|---|---|");
     let pair = (15, 20);
-    for (name, states) in [
-        ("lists of 1 to 5 values", list_states(chance, pair, 1000, 1, 5)),
-        ("lists of 1,000 values", list_states(chance, pair, 200, 1000, 1000)),
-        ("dense, p = 10", dense_states(chance, (10, 15), 200)),
-    ] {
+    let other_type = |states: Vec<Vec<u8>>| {
         let states: Vec<Vec<u8>> = states.iter().map(|s| Fields { kind: 113, ..Fields::parse(s).expect("a state") }.encode()).collect();
-        let joined = Joined::new(&states);
+        Joined::new(&states)
+    };
+    let small = (0..SETS).map(|_| other_type(list_states(chance, pair, 1000, 1, 5))).collect();
+    let large = (0..SETS).map(|_| other_type(list_states(chance, pair, 200, 1000, 1000))).collect();
+    let dense: Vec<Joined> = vec![other_type(dense_states(chance, (10, 15), 200))];
+    for (name, sets) in [("lists of 1 to 5 values", small), ("lists of 1,000 values", large), ("dense, p = 10", dense)] {
+        let n = sets[0].ends.len();
         let mut side = Side::new(10, 1 << 15, 100, 100, 100);
-        let mut answers = vec![0; states.len()];
-        let none = vec![0; states.len()];
+        let mut answers = vec![0; n];
+        let none = vec![0; n];
         let (mut rust, mut here, mut empty) = (Vec::new(), Vec::new(), Vec::new());
         for run in 0..RUNS + 5 {
+            let joined = &sets[run % sets.len()];
             let e = timed(|| {
                 black_box(side.fold(black_box(&[]), &none, &mut answers));
             });
@@ -407,8 +433,8 @@ pub fn run() {
     let by_p: Vec<(Case, f64)> = (10..=16)
         .map(|p| {
             let pair = (p, p + 5);
-            let (before, states) = (dense_states(&mut chance, pair, 1), dense_states(&mut chance, pair, 32));
-            (case(&format!("{p}"), p, before, states), 32.0 * f64::from(1 << p))
+            let case = case(&format!("{p}"), p, 1, || set(dense_states(&mut chance, pair, 1), dense_states(&mut chance, pair, 32)));
+            (case, 32.0 * f64::from(1 << p))
         })
         .collect();
     growth("dense into dense, p", "register", &by_p);
@@ -417,34 +443,30 @@ pub fn run() {
     let waiting: Vec<(Case, f64)> = [1, 4, 16, 64, 256, 1024]
         .iter()
         .map(|k| {
-            let n = 1024 / k;
-            let (before, states) = (list_states(&mut chance, pair, 1, 5, 5), list_states(&mut chance, pair, n, *k as u64, *k as u64));
-            (case(&format!("{k}"), 16, before, states), 1024.0)
+            let states = |chance: &mut Chance| list_states(chance, pair, 1024 / k, *k as u64, *k as u64);
+            (case(&format!("{k}"), 16, SETS, || set(list_states(&mut chance, pair, 1, 5, 5), states(&mut chance))), 1024.0)
         })
         .collect();
     growth("lists that wait, values in each", "value", &waiting);
     let merged: Vec<(Case, f64)> = [2100, 4000, 8000, 16000]
         .iter()
         .map(|k| {
-            let (before, states) = (list_states(&mut chance, pair, 1, *k, *k), list_states(&mut chance, pair, 1, *k, *k));
-            (case(&format!("{k}"), 16, before, states), 2.0 * *k as f64)
+            let one = |chance: &mut Chance| list_states(chance, pair, 1, *k, *k);
+            (case(&format!("{k}"), 16, SETS, || set(one(&mut chance), one(&mut chance))), 2.0 * *k as f64)
         })
         .collect();
     growth("two lists merged, values in each", "value", &merged);
-    let into: Vec<(Case, f64)> = (10..=16)
-        .map(|p| {
-            let (mut case, n) = inserted(&mut chance, p);
-            case.name = format!("{n}");
-            (case, 30.0)
-        })
-        .collect();
+    let into: Vec<(Case, f64)> = (10..=16).map(|p| (inserted(&mut chance, p), 30.0)).collect();
     growth("16 values inserted, values kept", "state", &into);
     let pair = (15, 20);
     let records: Vec<(Case, f64)> = [100, 1000, 10_000, 100_000]
         .iter()
         .map(|n| {
-            let states = list_states(&mut chance, pair, *n, 1, 5);
-            (case(&format!("{n}"), 15, vec![states[0].clone()], states), *n as f64)
+            let case = case(&format!("{n}"), 15, SETS, || {
+                let states = list_states(&mut chance, pair, *n, 1, 5);
+                set(vec![states[0].clone()], states)
+            });
+            (case, *n as f64)
         })
         .collect();
     growth("records of 1 to 5 values, from a list to dense", "record", &records);
