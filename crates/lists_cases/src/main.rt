@@ -231,7 +231,7 @@ fn inserts(enc: Sparse, l: &[u32], bytes: usize) -> bool
     requires { ⌜ SparseFits enc ⌝ }
     ensures { λ r. ⌜ (r ≡ true → Insertable (enc .«normal_precision») (enc .«sparse_precision») (now (l .entry)) bytes) ⌝ }
 {
-    if !lists::checking::is_ascending(l) {
+    if !merges(enc, l) {
         return false;
     }
     if !lists::inserting::has_distinct_slots(enc, l) {

@@ -17,7 +17,7 @@ returns : tie.Need-returns
 returns c = search needs
 
 has-distinct-slots-requires : tie.Need-has-distinct-slots-requires
-has-distinct-slots-requires c κs = search needs
+has-distinct-slots-requires c κs = let m = c .before .merges .ensures (not-false _ (c .if1 .left)) in (c .before .before .before .pre, m .order, m .each)
 
 bad-case-requires-2 : tie.Need-bad-case-requires-2
 bad-case-requires-2 c κs = search needs
