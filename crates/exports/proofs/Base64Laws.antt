@@ -9,8 +9,8 @@ use lib.Dec.{ltb, eqb}
 use lib.ListN.{length, take, drop, set, getD, drop-of-length-le}
 use lib.Seq.{sets, sets-eq, length-sets, drop-cons, take-append-add, take-append-le, length-take-le}
 use borrow.Author.Tests.{lt-ltb, le-ltb, eq-eqb, ne-eqb}
-use Rattle.cases.specs.Input.{upTo, FindPost}
-use Rattle.cases.specs.declared.input.Bytes.the-variants.{Count}
+use Rattle.console.specs.Input.{upTo, FindPost}
+use Rattle.console.specs.declared.input.Bytes.the-variants.{Count}
 use Rattle.exports.specs.Words.{ahead, DecodedPost}
 use Rattle.exports.specs.Base64.{alphabet, sextetOf, bitsOf, threeOf, groupThen, endOf, lastGroup, base64Of, SextetPost, BitsPost}
 use Rattle.exports.proofs.WordLaws.{ahead-twice}

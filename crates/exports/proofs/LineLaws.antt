@@ -9,9 +9,9 @@ use lib.Dec.{eqb}
 use lib.ListN.{length, take, drop, getD, length-take, length-drop}
 use lib.Seq.{drop-drop, drop-cons}
 use borrow.Author.Tests.{eq-eqb, ne-eqb}
-use Rattle.cases.specs.Input.{upTo, hexOf}
-use Rattle.cases.specs.declared.input.Bytes.{Bytes}
-use Rattle.cases.specs.declared.input.Bytes.the-variants.{Count, Other}
+use Rattle.console.specs.Input.{upTo, hexOf}
+use Rattle.console.specs.declared.input.Bytes.{Bytes}
+use Rattle.console.specs.declared.input.Bytes.the-variants.{Count, Other}
 use Rattle.exports.specs.Words.{DecodedPost}
 use Rattle.exports.specs.Base64.{base64Of}
 use Rattle.exports.specs.Hexadecimal.{lowered}

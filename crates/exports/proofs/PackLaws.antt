@@ -15,7 +15,7 @@ use Rattle.wire.specs.Varints.{PutPost}
 use Rattle.batch.specs.Chain.{chainOf}
 use Rattle.batch.specs.Packing.{wordBytes, packed, RecordPost}
 use Rattle.batch.proofs.PackingLaws.{Open, open-start, open-packed, open-next, word-length, record-length, packed-chain}
-use Rattle.cases.specs.Input.{upTo}
+use Rattle.console.specs.Input.{upTo}
 use Rattle.exports.specs.declared.packing.Place.{Place}
 use Rattle.exports.specs.declared.packing.Turn.{Turn}
 use Rattle.exports.specs.declared.packing.Turn.the-variants.{Next, Other, Long}

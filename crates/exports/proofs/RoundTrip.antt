@@ -9,10 +9,10 @@ use native.Mathlib.Omega.{arith}
 use lib.ListN.{length, length-append}
 use borrow.Author.Tests.{lt-ltb, le-ltb, le-leb, ne-eqb}
 use Rattle.io.specs.Digits.{glyph}
-use Rattle.cases.specs.Input.{hexOf}
-use Rattle.cases.specs.Output.{hexText}
-use Rattle.cases.proofs.InputLaws.{side}
-use Rattle.cases.proofs.RoundTrip.{AllBytes, hex-there-and-back}
+use Rattle.console.specs.Input.{hexOf}
+use Rattle.console.specs.Output.{hexText}
+use Rattle.console.proofs.InputLaws.{side}
+use Rattle.console.proofs.RoundTrip.{AllBytes, hex-there-and-back}
 use Rattle.batch.specs.Packing.{packed, recordBytes, recordsAt, indexOf, wordBytes}
 use Rattle.batch.proofs.PackingLaws.{record-length, word-length}
 use Rattle.exports.specs.Base64.{base64Of}

@@ -7,12 +7,12 @@ use native.Mathlib.Omega.{arith}
 use lib.ListN.{length, take, set, getD, length-map, length-set}
 use lib.Seq.{take-suc-set, length-take-le}
 use native.Mathlib.Numerals.{add-one}
-use Rattle.cases.specs.Output.{hexText, HexPost}
+use Rattle.console.specs.Output.{hexText, HexPost}
 use Rattle.exports.specs.Text.{LinePost}
 use borrow.Author.Tests.{lt-ltb, le-ltb}
 use Rattle.io.specs.Counts.{Counts}
-use Rattle.cases.specs.declared.input.Bytes.{Bytes}
-use Rattle.cases.specs.declared.input.Bytes.the-variants.{Count, Other}
+use Rattle.console.specs.declared.input.Bytes.{Bytes}
+use Rattle.console.specs.declared.input.Bytes.the-variants.{Count, Other}
 use Rattle.exports.specs.Words.{ahead, DecodedPost}
 use Rattle.exports.specs.Hexadecimal.{lowerOf, lowered}
 

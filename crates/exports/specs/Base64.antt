@@ -6,7 +6,7 @@ use mathlib.Core.Option.{Option, none, some}
 use Prim.Native.Nat.{ℕ, _+_, _*_, _/_, _%_, _≤_, _<_}
 use lib.Dec.{ltb, eqb}
 use lib.ListN.{length, take}
-use Rattle.cases.specs.Input.{upTo}
+use Rattle.console.specs.Input.{upTo}
 use Rattle.exports.specs.Words.{ahead}
 
 -- "Table 1: The Base 64 Alphabet", in the order of the values: A to Z, a to z, 0 to 9, + and /.

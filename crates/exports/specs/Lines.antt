@@ -4,7 +4,7 @@ use mathlib.Core.Bool.{cond}
 use mathlib.Core.Option.{Option, none, some}
 use Prim.Native.Nat.{ℕ}
 use lib.Dec.{eqb}
-use Rattle.cases.specs.Input.{hexOf}
+use Rattle.console.specs.Input.{hexOf}
 use Rattle.exports.specs.Base64.{base64Of}
 use Rattle.exports.specs.Hexadecimal.{lowered}
 

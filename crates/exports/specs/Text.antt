@@ -4,7 +4,7 @@ use mathlib.Core.List.{List, [], _∷_, _++_}
 use Prim.Native.Nat.{ℕ}
 use lib.ListN.{take}
 use Rattle.io.specs.Counts.{Counts}
-use Rattle.cases.specs.Output.{hexText}
+use Rattle.console.specs.Output.{hexText}
 
 -- The bytes as lowercase hexadecimal and a newline stand at the front.
 pub record LinePost (bytes : List ℕ) (r : ℕ) (now : List ℕ) : Type 0 where

@@ -5,8 +5,8 @@ use mathlib.Core.Option.{Option, none, some}
 use Prim.Native.Nat.{ℕ}
 use lib.ListN.{take}
 use Rattle.io.specs.Counts.{Counts}
-use Rattle.cases.specs.declared.input.Bytes.{Bytes}
-use Rattle.cases.specs.declared.input.Bytes.the-variants.{Count, Other}
+use Rattle.console.specs.declared.input.Bytes.{Bytes}
+use Rattle.console.specs.declared.input.Bytes.the-variants.{Count, Other}
 
 -- Bytes in front of a byte string.
 abbrev pub ahead : List ℕ → Option (List ℕ) → Option (List ℕ)

@@ -5,8 +5,8 @@ ghost use lib.ListN.{length, getD, take, drop};
 ghost use lib.Seq.{sets};
 ghost use Rattle.exports.specs.Words.{ahead, DecodedPost};
 ghost use Rattle.exports.specs.Base64.{sextetOf, threeOf, endOf, base64Of, SextetPost, BitsPost, GroupPre, EndPre};
-use cases::input;
-use cases::input::Bytes;
+use console::input;
+use console::input::Bytes;
 
 // More than any 24 bits: a group that has a character without a value.
 const NONE: usize = 16777216;

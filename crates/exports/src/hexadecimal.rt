@@ -2,11 +2,11 @@
 ghost use mathlib.Core.Path.{_≡_};
 ghost use Prim.Native.Nat.{_≤_};
 ghost use lib.ListN.{length};
-ghost use Rattle.cases.specs.Input.{hexOf};
+ghost use Rattle.console.specs.Input.{hexOf};
 ghost use Rattle.exports.specs.Words.{DecodedPost};
 ghost use Rattle.exports.specs.Hexadecimal.{lowerOf, lowered};
-use cases::input;
-use cases::input::Bytes;
+use console::input;
+use console::input::Bytes;
 
 fn lower(b: u8) -> u8
     ensures { λ r. ⌜ r ≡ lowerOf b ⌝ }

@@ -6,7 +6,7 @@ ghost use Rattle.exports.specs.Words.{DecodedPost};
 ghost use Rattle.exports.specs.Lines.{trimmed, stateOf};
 use crate::base64;
 use crate::hexadecimal;
-use cases::input::Bytes;
+use console::input::Bytes;
 
 // The line without the carriage return that may stand at its end.
 pub fn trim(line: &[u8]) -> &[u8]

@@ -5,8 +5,8 @@ ghost use Rattle.exports.specs.Lines.{held};
 ghost use Rattle.exports.specs.Packing.{packingOf, refusal, TurnPre, TurnPost, PackPre, PackedPost};
 use crate::lines;
 use batch::packing;
-use cases::input;
-use cases::input::Bytes;
+use console::input;
+use console::input::Bytes;
 
 // Where the batch so far ends, and where the index stands that ends its chain.
 pub struct Place {

@@ -37,7 +37,7 @@ pub fn hex_line(bytes: &[u8], out: &mut [u8]) -> usize
     requires { ⌜ 2 * length (now bytes) + 1 ≤ length (now out) ⌝ }
     ensures { λ r. ⌜ LinePost (now (bytes .entry)) r (now (out .exit)) ⌝ }
 {
-    let n = cases::output::hex(bytes, out);
+    let n = console::output::hex(bytes, out);
     out[n] = b'\n';
     n + 1
 }

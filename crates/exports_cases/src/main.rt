@@ -2,9 +2,9 @@
 // and the line is printed. Where the number is above 0, the other lines are packed into so many bytes; where it is 0, the next line is a batch in
 // hexadecimal, which is walked.
 use batch::unpacking;
-use cases::input;
-use cases::input::Bytes;
-use cases::input::Number;
+use console::input;
+use console::input::Bytes;
+use console::input::Number;
 use exports::packing;
 use exports::packing::Packed;
 use libc::STDOUT_FILENO;
@@ -13,8 +13,8 @@ fn print_states(batch: &[u8], indices: &[u32]) {
     let mut k: usize = 0;
     while k < indices.len() {
         let at = indices[k] as usize;
-        cases::text::space();
-        cases::text::print_hex(unpacking::state_at(batch, at));
+        console::text::space();
+        console::text::print_hex(unpacking::state_at(batch, at));
         k += 1;
     }
 }
@@ -24,42 +24,42 @@ fn print_walk(batch: &[u8]) {
     let mut indices = exports::text::index_cells();
     let w = unpacking::walk(batch, &mut indices);
     let n = w.records;
-    cases::text::print_number(n as u64);
-    cases::text::space();
-    cases::text::print_number(w.ending as u64);
+    console::text::print_number(n as u64);
+    console::text::space();
+    console::text::print_number(w.ending as u64);
     print_states(batch, &indices[..n]);
-    cases::text::end_line();
+    console::text::end_line();
 }
 
 fn walk_case(word: &[u8], bytes: &mut [u8]) {
     let r = input::read_bytes(word, bytes);
     let Bytes::Count(n) = r else {
-        cases::text::bad_case();
+        console::text::bad_case();
         return;
     };
     print_walk(&bytes[..n]);
 }
 
 fn print_batch(batch: &[u8]) {
-    cases::text::print_hex(batch);
-    cases::text::end_line();
+    console::text::print_hex(batch);
+    console::text::end_line();
     print_walk(batch);
 }
 
 fn print_line(what: &[u8], line: usize) {
     io::write_all(STDOUT_FILENO, what);
-    cases::text::print_number(line as u64);
-    cases::text::end_line();
+    console::text::print_number(line as u64);
+    console::text::end_line();
 }
 
 fn pack_case(lines: &[u8], out: &mut [u8]) {
     let mut spare = io::large_buffer();
     if spare.len() < lines.len() {
-        cases::text::bad_case();
+        console::text::bad_case();
         return;
     }
     if out.len() < 4 {
-        cases::text::bad_case();
+        console::text::bad_case();
         return;
     }
     let r = packing::pack(lines, &mut spare, out);
@@ -78,12 +78,12 @@ fn numbered(room: u64, lines: &[u8], out: &mut [u8]) {
         return;
     }
     if 4096 < room {
-        cases::text::bad_case();
+        console::text::bad_case();
         return;
     }
     let size = room as usize;
     if out.len() < size {
-        cases::text::bad_case();
+        console::text::bad_case();
         return;
     }
     pack_case(lines, &mut out[..size]);
@@ -92,10 +92,10 @@ fn numbered(room: u64, lines: &[u8], out: &mut [u8]) {
 fn case(lines: &[u8]) {
     let end = input::find(lines, 0, b'\n');
     io::write_all(STDOUT_FILENO, &lines[..end]);
-    cases::text::end_line();
-    let r = input::read_number(cases::text::word(&lines[..end], 0));
+    console::text::end_line();
+    let r = input::read_number(console::text::word(&lines[..end], 0));
     let Number::Value(room) = r else {
-        cases::text::bad_case();
+        console::text::bad_case();
         return;
     };
     let mut out = io::buffer();
@@ -103,7 +103,7 @@ fn case(lines: &[u8]) {
         let start = end + 1;
         numbered(room, &lines[start..], &mut out);
     } else {
-        cases::text::bad_case();
+        console::text::bad_case();
     }
 }
 

@@ -6,7 +6,7 @@ use mathlib.Core.Bool.{Bool, true, false, true≢false}
 use native.Mathlib.Omega.{arith}
 use lib.ListN.{length, take, length-take}
 use Rattle.io.specs.Counts.{Counts}
-use Rattle.cases.proofs.TextLaws.{front}
+use Rattle.console.proofs.TextLaws.{front}
 use Rattle.wire.specs.Reading.{Read, got, refused}
 use Rattle.lists.specs.declared.decoding.Decoded.{Decoded}
 use Rattle.lists.specs.declared.decoding.Decoded.the-variants.{Done, Refused}

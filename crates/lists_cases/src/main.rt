@@ -8,7 +8,7 @@ ghost use lib.ListN.{length};
 ghost use Rattle.lists.specs.Values.{SparseFits, valid};
 ghost use Rattle.lists.specs.Registers.{LowerPre};
 ghost use Rattle.lists_cases.specs.Tests.{Mergeable, Insertable};
-use cases::text;
+use console::text;
 use libc::STDOUT_FILENO;
 use lists::decoding::Decoded;
 use lists::values::Sparse;
@@ -93,8 +93,8 @@ fn decode_line(enc: Sparse, line: &[u8])
     requires { ⌜ SparseFits enc ⌝ }
 {
     let mut bytes = io::buffer();
-    let r = cases::input::read_bytes(text::word(line, 3), &mut bytes);
-    let cases::input::Bytes::Count(n) = r else {
+    let r = console::input::read_bytes(text::word(line, 3), &mut bytes);
+    let console::input::Bytes::Count(n) = r else {
         text::bad_case();
         return;
     };
@@ -116,7 +116,7 @@ fn print_written(n: usize, out: &[u8])
     requires { ⌜ n ≤ length (now out) ⌝ }
 {
     text::print_hex(&out[..n]);
-    if !cases::output::all_are(&out[n..], FILL) {
+    if !console::output::all_are(&out[n..], FILL) {
         io::write_all(STDOUT_FILENO, b" touched");
     }
     text::end_line();
@@ -364,8 +364,8 @@ fn set_line(enc: Sparse, line: &[u8])
     requires { ⌜ SparseFits enc ⌝ }
 {
     let mut registers = io::buffer();
-    let r = cases::input::read_bytes(text::word(line, 4), &mut registers);
-    let cases::input::Bytes::Count(n) = r else {
+    let r = console::input::read_bytes(text::word(line, 4), &mut registers);
+    let console::input::Bytes::Count(n) = r else {
         text::bad_case();
         return;
     };
@@ -421,14 +421,14 @@ fn max_case(p: u32, q: u32, source: &[u8], target: &mut [u8]) {
 
 fn max_line(line: &[u8]) {
     let mut source = io::buffer();
-    let r = cases::input::read_bytes(text::word(line, 3), &mut source);
-    let cases::input::Bytes::Count(n) = r else {
+    let r = console::input::read_bytes(text::word(line, 3), &mut source);
+    let console::input::Bytes::Count(n) = r else {
         text::bad_case();
         return;
     };
     let mut target = io::buffer();
-    let q = cases::input::read_bytes(text::word(line, 4), &mut target);
-    let cases::input::Bytes::Count(m) = q else {
+    let q = console::input::read_bytes(text::word(line, 4), &mut target);
+    let console::input::Bytes::Count(m) = q else {
         text::bad_case();
         return;
     };
@@ -453,8 +453,8 @@ fn lower_case(p: u32, q: u32, registers: &mut [u8]) {
 
 fn lower_line(line: &[u8]) {
     let mut registers = io::buffer();
-    let r = cases::input::read_bytes(text::word(line, 3), &mut registers);
-    let cases::input::Bytes::Count(n) = r else {
+    let r = console::input::read_bytes(text::word(line, 3), &mut registers);
+    let console::input::Bytes::Count(n) = r else {
         text::bad_case();
         return;
     };
@@ -514,7 +514,7 @@ fn case(line: &[u8]) {
 fn all_cases(text: &[u8]) {
     let mut at: usize = 0;
     while at < text.len() {
-        let end = cases::input::find(text, at, b'\n');
+        let end = console::input::find(text, at, b'\n');
         case(&text[at..end]);
         at = end + 1;
     }
@@ -522,6 +522,6 @@ fn all_cases(text: &[u8]) {
 
 fn main() {
     let mut buf = io::large_buffer();
-    let n = cases::input::read_cases(b"lists_cases", &mut buf);
+    let n = console::input::read_cases(b"lists_cases", &mut buf);
     all_cases(&buf[..n]);
 }

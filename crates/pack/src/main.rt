@@ -2,8 +2,8 @@
 // batch would be too long, nothing is written but a message on standard error.
 ghost use Prim.Native.Nat.{_≤_};
 ghost use lib.ListN.{length};
-use cases::input;
-use cases::input::Stream;
+use console::input;
+use console::input::Stream;
 use exports::packing;
 use exports::packing::Packed;
 use exports::text;

@@ -1,4 +1,4 @@
--- Laws of numbers as text: `signedText` is the one text that `Signed` of `cases` allows, and is no longer than 21 bytes.
+-- Laws of numbers as text: `signedText` is the one text that `Signed` of `console` allows, and is no longer than 21 bytes.
 use mathlib.Core.Path.{_≡_, refl, sym, ap, _∙_, subst}
 use mathlib.Core.List.{List, [], _∷_, _++_}
 use mathlib.Core.Logic.{⊎-elim}
@@ -10,8 +10,8 @@ use native.Mathlib.Omega.{arith}
 use lib.ListN.{length, take, drop, length-append, take-append-drop}
 use borrow.Author.Tests.{lt-ltb, le-ltb}
 use Rattle.io.specs.Digits.{glyph, digits, Fewest}
-use Rattle.cases.specs.Output.{Decimal, SignedBy, Signed}
-use Rattle.cases.proofs.InputLaws.{side}
+use Rattle.console.specs.Output.{Decimal, SignedBy, Signed}
+use Rattle.console.proofs.InputLaws.{side}
 use Rattle.reporting.specs.Numbers.{figures, decimalText, signedText, numberText}
 
 -- ---- the digits

@@ -12,8 +12,8 @@ use borrow.Author.Tests.{eq-eqb, ne-eqb}
 use Rattle.io.specs.Counts.{Counts}
 use Rattle.io.specs.Digits.{glyph}
 use Rattle.wire.specs.Varints.{PutPost}
-use Rattle.cases.specs.Output.{hexText, HexPost}
-use Rattle.cases.proofs.InputLaws.{side}
+use Rattle.console.specs.Output.{hexText, HexPost}
+use Rattle.console.proofs.InputLaws.{side}
 use Rattle.batch.specs.declared.closing.Report.{Report}
 use Rattle.reporting.specs.declared.text.Place.{Place}
 use Rattle.reporting.specs.declared.text.Place.the-variants.{Answers, Closing, State, End}

@@ -10,7 +10,7 @@ use borrow.Author.Tests.{eq-eqb, ne-eqb}
 use borrow.Rule.Slice.PartMut.{midOf, postOf, putMid}
 use Rattle.wire.specs.Varints.{PutPost}
 use Rattle.wire.proofs.EncodingLaws.{sets-more, Two, Four, four, two-length}
-use Rattle.cases.specs.Output.{SignedPost, widenedOf}
+use Rattle.console.specs.Output.{SignedPost, widenedOf}
 use Rattle.rollup.specs.declared.accumulator.Accumulator.{Accumulator}
 use Rattle.batch.specs.declared.records.Ending.{Ending}
 use Rattle.batch.specs.declared.records.Ending.the-variants.{Whole, Refused, Full}

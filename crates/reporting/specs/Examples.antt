@@ -4,7 +4,7 @@ use mathlib.Core.List.{[], _∷_}
 use mathlib.Core.Bool.{Bool, true, _&&_}
 use Prim.Native.Nat.{_-_, _^_}
 use Rattle.wire.specs.Examples.{sameBytes}
-use Rattle.cases.specs.Output.{hexText}
+use Rattle.console.specs.Output.{hexText}
 use Rattle.batch.specs.declared.records.Ending.the-variants.{Whole, Refused}
 use Rattle.reporting.specs.Numbers.{figures, signedText, numberText}
 use Rattle.reporting.specs.Text.{answerLine, answerLines, endingText, numbersLine, stateText}

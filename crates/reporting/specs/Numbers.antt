@@ -1,4 +1,4 @@
--- A number as text, with the byte behind it. `cases` says by a relation, `Signed`, which text a number has; here is the text itself. That `Signed` allows
+-- A number as text, with the byte behind it. `console` says by a relation, `Signed`, which text a number has; here is the text itself. That `Signed` allows
 -- it of each number of 64 bits, and no other text, is shown in proofs/NumberLaws (`signed-is`, `signed-one`).
 use mathlib.Core.List.{List, [], _∷_, _++_}
 use mathlib.Core.Bool.{cond}

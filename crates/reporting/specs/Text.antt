@@ -5,7 +5,7 @@ use mathlib.Core.Bool.{cond}
 use Prim.Native.Nat.{ℕ, _+_}
 use lib.Dec.{eqb}
 use lib.ListN.{take}
-use Rattle.cases.specs.Output.{widenedOf, hexText}
+use Rattle.console.specs.Output.{widenedOf, hexText}
 use Rattle.rollup.specs.declared.accumulator.Accumulator.{Accumulator}
 use Rattle.batch.specs.declared.records.Ending.{Ending}
 use Rattle.batch.specs.declared.records.Ending.the-variants.{Whole, Refused, Full}

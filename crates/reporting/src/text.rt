@@ -10,7 +10,7 @@ ghost use Rattle.reporting.specs.Pieces.{ReportIn, RecordsPre, Within, P
 use batch::closing::Count;
 use batch::closing::Report;
 use batch::records::Ending;
-use cases::output;
+use console::output;
 use rollup::accumulator::Accumulator;
 
 // Puts a number in decimal and the byte after it, a blank or a newline, and answers the position past them.

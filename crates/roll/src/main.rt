@@ -1,6 +1,6 @@
 // The program `roll`: reads a batch from standard input, rolls it up, and prints what document 01, "The batch", says.
-use cases::input;
-use cases::input::Stream;
+use console::input;
+use console::input::Stream;
 use libc::STDERR_FILENO;
 use libc::STDIN_FILENO;
 

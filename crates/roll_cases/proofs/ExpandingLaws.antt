@@ -14,14 +14,14 @@ use lib.Seq.{length-take-le, take-at, drop-cons, drop-drop}
 use borrow.Rule.Slice.PartMut.{midOf, postOf, putMid, mid-len}
 use borrow.Author.Tests.{eq-eqb, ne-eqb}
 use Rattle.io.specs.Counts.{Counts}
-use Rattle.cases.specs.declared.input.Bytes.{Bytes}
-use Rattle.cases.specs.declared.input.Bytes.the-variants.{Count, Other}
-use Rattle.cases.specs.declared.input.Number.{Number}
-use Rattle.cases.specs.declared.input.Number.the-variants.{Value, Other as NumberOther}
-use Rattle.cases.specs.Input.{upTo, digitOf, byteThen, consTo, onto, decimalOf, below64, hexOf, numberMeans, BytesPost}
-use Rattle.cases.proofs.input.Bytes.{enum as bytes-enum}
-use Rattle.cases.proofs.input.Number.{enum as number-enum}
-use Rattle.cases.proofs.InputLaws.{not-some}
+use Rattle.console.specs.declared.input.Bytes.{Bytes}
+use Rattle.console.specs.declared.input.Bytes.the-variants.{Count, Other}
+use Rattle.console.specs.declared.input.Number.{Number}
+use Rattle.console.specs.declared.input.Number.the-variants.{Value, Other as NumberOther}
+use Rattle.console.specs.Input.{upTo, digitOf, byteThen, consTo, onto, decimalOf, below64, hexOf, numberMeans, BytesPost}
+use Rattle.console.proofs.input.Bytes.{enum as bytes-enum}
+use Rattle.console.proofs.input.Number.{enum as number-enum}
+use Rattle.console.proofs.InputLaws.{not-some}
 use Rattle.roll_cases.specs.Expanding.{joined, timesOf, times, timesBy, wordBytes, wordsBytes, lineBytes, Expands}
 
 -- ---- what the other tag of an answer says

@@ -8,9 +8,9 @@ use Prim.Native.Nat.{ℕ, zero, suc, _+_, _<_}
 use lib.Dec.{eqb}
 use lib.ListN.{length, take, drop}
 use Rattle.io.specs.Counts.{Counts}
-use Rattle.cases.specs.declared.input.Bytes.{Bytes}
-use Rattle.cases.specs.declared.input.Bytes.the-variants.{Count, Other}
-use Rattle.cases.specs.Input.{upTo, decimalOf, below64, onto, hexOf}
+use Rattle.console.specs.declared.input.Bytes.{Bytes}
+use Rattle.console.specs.declared.input.Bytes.the-variants.{Count, Other}
+use Rattle.console.specs.Input.{upTo, decimalOf, below64, onto, hexOf}
 
 -- Two byte strings, one behind the other.
 abbrev pub joined : Option (List ℕ) → Option (List ℕ) → Option (List ℕ)

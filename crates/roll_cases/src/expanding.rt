@@ -2,11 +2,11 @@
 ghost use mathlib.Core.Path.{_≡_};
 ghost use Prim.Native.Nat.{_≤_};
 ghost use lib.ListN.{length, take, drop};
-ghost use Rattle.cases.specs.Input.{hexOf, numberMeans};
+ghost use Rattle.console.specs.Input.{hexOf, numberMeans};
 ghost use Rattle.roll_cases.specs.Expanding.{timesOf, times as Expanding·times, wordBytes, Expands, LinePost};
-use cases::input;
-use cases::input::Bytes;
-use cases::input::Number;
+use console::input;
+use console::input::Bytes;
+use console::input::Number;
 
 // How often the bytes before the star stand there: once where there is no star.
 fn times(word: &[u8], star: usize) -> Number

@@ -3,9 +3,9 @@
 ghost use mathlib.Core.Path.{_≡_};
 ghost use Prim.Native.Nat.{_<_};
 ghost use lib.ListN.{length};
-use cases::input;
-use cases::input::Bytes;
-use cases::text;
+use console::input;
+use console::input::Bytes;
+use console::text;
 use libc::STDOUT_FILENO;
 
 mod expanding;

@@ -3,8 +3,8 @@
 ghost use mathlib.Core.Path.{_≡_};
 ghost use Prim.Native.Nat.{_≤_, _<_};
 ghost use lib.ListN.{length};
-use cases::input::Bytes;
-use cases::text;
+use console::input::Bytes;
+use console::text;
 use libc::STDOUT_FILENO;
 use rollup::accumulator::Accumulator;
 use rollup::accumulator::Form;
@@ -75,7 +75,7 @@ fn head_line(line: &[u8]) -> Accumulator {
 
 // Bytes at the front of the registers.
 fn registers_line(line: &[u8], registers: &mut [u8]) {
-    match cases::input::read_bytes(text::word(line, 1), registers) {
+    match console::input::read_bytes(text::word(line, 1), registers) {
         Bytes::Count(_) => text::print_ok(),
         Bytes::Other => text::bad_case(),
     }
@@ -147,7 +147,7 @@ fn add_line(
     line: &[u8],
 ) -> Accumulator {
     let mut bytes = io::buffer();
-    let r = cases::input::read_bytes(text::word(line, 1), &mut bytes);
+    let r = console::input::read_bytes(text::word(line, 1), &mut bytes);
     let Bytes::Count(n) = r else {
         text::bad_case();
         return head;
@@ -294,7 +294,7 @@ fn calls(
         if text[at] == b'n' {
             return at;
         }
-        let end = cases::input::find(text, at, b'\n');
+        let end = console::input::find(text, at, b'\n');
         let next = end + 1;
         head = case(head, registers, sparse, pending, scratch, &text[at..end]);
         at = next;
@@ -338,7 +338,7 @@ fn roll_up(text: &[u8], at: usize) -> usize
     requires { ⌜ at < length (now text) ⌝ }
     ensures { λ r. ⌜ at < r ⌝ }
 {
-    let end = cases::input::find(text, at, b'\n');
+    let end = console::input::find(text, at, b'\n');
     if text[at] == b'n' {
         return new_line(text, end + 1, &text[at..end]);
     }
@@ -355,6 +355,6 @@ fn all_cases(text: &[u8]) {
 
 fn main() {
     let mut buf = stream_bytes();
-    let n = cases::input::read_cases(b"rollup_cases", &mut buf);
+    let n = console::input::read_cases(b"rollup_cases", &mut buf);
     all_cases(&buf[..n]);
 }

@@ -3,8 +3,8 @@
 ghost use Prim.Native.Nat.{_≤_};
 ghost use lib.ListN.{length};
 use batch::unpacking;
-use cases::input;
-use cases::input::Stream;
+use console::input;
+use console::input::Stream;
 use exports::text;
 use libc::STDERR_FILENO;
 use libc::STDIN_FILENO;

@@ -2,7 +2,7 @@
 // vectors were made, is said in compare/vectors/README.md.
 ghost use Prim.Native.Nat.{_≤_};
 ghost use lib.ListN.{length};
-use cases::text;
+use console::text;
 use libc::STDOUT_FILENO;
 use wire::encoding::Encoded;
 use wire::state::Fields;
@@ -14,7 +14,7 @@ use wire::varint::Varint;
 const FILL: u8 = 165;
 
 fn print_signed(v: u64) {
-    cases::output::print_signed(STDOUT_FILENO, v);
+    console::output::print_signed(STDOUT_FILENO, v);
     text::space();
 }
 
@@ -31,13 +31,13 @@ fn print_part(present: bool, bytes: &[u8]) {
 
 fn print_fields(bytes: &[u8], f: Fields) {
     let h = f.hll;
-    print_signed(cases::output::widened(f.aggregator_type));
+    print_signed(console::output::widened(f.aggregator_type));
     print_signed(f.num_values);
-    print_signed(cases::output::widened(f.encoding_version));
-    print_signed(cases::output::widened(f.value_type));
-    print_signed(cases::output::widened(h.sparse_size));
-    print_signed(cases::output::widened(h.precision));
-    print_signed(cases::output::widened(h.sparse_precision));
+    print_signed(console::output::widened(f.encoding_version));
+    print_signed(console::output::widened(f.value_type));
+    print_signed(console::output::widened(h.sparse_size));
+    print_signed(console::output::widened(h.precision));
+    print_signed(console::output::widened(h.sparse_precision));
     print_part(h.data_present, wire::state::data(bytes, f));
     text::space();
     print_part(h.sparse_data_present, wire::state::sparse_data(bytes, f));
@@ -85,7 +85,7 @@ fn length_case(v: u64) {
 
 // Whether the output behind the written bytes is as it was.
 fn print_touched(rest: &[u8]) {
-    if !cases::output::all_are(rest, FILL) {
+    if !console::output::all_are(rest, FILL) {
         io::write_all(STDOUT_FILENO, b" touched");
     }
     text::end_line();
@@ -133,8 +133,8 @@ fn byte_case(kind: u8, v: u64, bytes: &[u8]) {
 
 fn case_with_bytes(kind: u8, v: u64, word: &[u8]) {
     let mut bytes = io::buffer();
-    let r = cases::input::read_bytes(word, &mut bytes);
-    let cases::input::Bytes::Count(n) = r else {
+    let r = console::input::read_bytes(word, &mut bytes);
+    let console::input::Bytes::Count(n) = r else {
         text::bad_case();
         return;
     };
@@ -152,9 +152,9 @@ fn behind(line: &[u8], k: usize) -> &[u8] {
 
 // A case that has a number, and then perhaps bytes.
 fn case_with_number(kind: u8, rest: &[u8]) {
-    let k = cases::input::find(rest, 0, b' ');
-    let r = cases::input::read_number(&rest[..k]);
-    let cases::input::Number::Value(v) = r else {
+    let k = console::input::find(rest, 0, b' ');
+    let r = console::input::read_number(&rest[..k]);
+    let console::input::Number::Value(v) = r else {
         text::bad_case();
         return;
     };
@@ -186,7 +186,7 @@ fn case(line: &[u8]) {
 fn all_cases(text: &[u8]) {
     let mut at: usize = 0;
     while at < text.len() {
-        let end = cases::input::find(text, at, b'\n');
+        let end = console::input::find(text, at, b'\n');
         case(&text[at..end]);
         at = end + 1;
     }
@@ -194,6 +194,6 @@ fn all_cases(text: &[u8]) {
 
 fn main() {
     let mut buf = io::large_buffer();
-    let n = cases::input::read_cases(b"wire_cases", &mut buf);
+    let n = console::input::read_cases(b"wire_cases", &mut buf);
     all_cases(&buf[..n]);
 }

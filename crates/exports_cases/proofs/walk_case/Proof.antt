@@ -1,5 +1,5 @@
 -- `walk_case` is safe: the count that `read_bytes` answers lies inside the buffer.
-use Rattle.cases.proofs.InputLaws.{counted}
+use Rattle.console.proofs.InputLaws.{counted}
 use borrow.Author.Needs.{needs}
 use Rattle.exports_cases.proofs.walk_case.Statement.{statement}
 use Rattle.exports_cases.proofs.walk_case.Tie as tie

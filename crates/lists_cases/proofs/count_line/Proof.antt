@@ -1,5 +1,5 @@
 -- `count_line` is safe: the count that `read_list` answers lies inside its array.
-use Rattle.cases.proofs.TextLaws.{listed}
+use Rattle.console.proofs.TextLaws.{listed}
 use borrow.Author.Needs.{needs}
 use Rattle.lists_cases.proofs.count_line.Statement.{statement}
 use Rattle.lists_cases.proofs.count_line.Tie as tie

@@ -1,5 +1,5 @@
 -- `lower_line` is safe: the count that `read_bytes` answers lies inside the buffer.
-use Rattle.cases.proofs.InputLaws.{counted}
+use Rattle.console.proofs.InputLaws.{counted}
 use borrow.Author.Needs.{needs}
 use Rattle.lists_cases.proofs.lower_line.Statement.{statement}
 use Rattle.lists_cases.proofs.lower_line.Tie as tie

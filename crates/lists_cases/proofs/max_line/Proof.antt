@@ -1,5 +1,5 @@
 -- `max_line` is safe: the counts that `read_bytes` answers lie inside their buffers.
-use Rattle.cases.proofs.InputLaws.{counted}
+use Rattle.console.proofs.InputLaws.{counted}
 use borrow.Author.Needs.{needs}
 use Rattle.lists_cases.proofs.max_line.Statement.{statement}
 use Rattle.lists_cases.proofs.max_line.Tie as tie

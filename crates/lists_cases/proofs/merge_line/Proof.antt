@@ -1,5 +1,5 @@
 -- `merge_line` is safe: the counts that `read_list` answers lie inside their arrays.
-use Rattle.cases.proofs.TextLaws.{listed}
+use Rattle.console.proofs.TextLaws.{listed}
 use borrow.Author.Needs.{needs}
 use Rattle.lists_cases.proofs.merge_line.Statement.{statement}
 use Rattle.lists_cases.proofs.merge_line.Tie as tie

@@ -1,6 +1,6 @@
 -- `set_line` is safe: the counts that `read_bytes` and `read_list` answer lie inside their arrays.
-use Rattle.cases.proofs.InputLaws.{counted}
-use Rattle.cases.proofs.TextLaws.{listed}
+use Rattle.console.proofs.InputLaws.{counted}
+use Rattle.console.proofs.TextLaws.{listed}
 use borrow.Author.Needs.{needs}
 use Rattle.lists_cases.proofs.set_line.Statement.{statement}
 use Rattle.lists_cases.proofs.set_line.Tie as tie

@@ -1,6 +1,6 @@
 -- `main` is safe: the count that `read_all` answers lies inside the buffer.
 use native.Mathlib.Omega.{arith}
-use Rattle.cases.proofs.InputLaws.{streamed}
+use Rattle.console.proofs.InputLaws.{streamed}
 use borrow.Author.Needs.{needs}
 use Rattle.pack.proofs.main.Statement.{statement}
 use Rattle.pack.proofs.main.Tie as tie

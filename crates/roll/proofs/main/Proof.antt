@@ -1,5 +1,5 @@
 -- The count that `read_all` answers lies inside the buffer.
-use Rattle.cases.proofs.InputLaws.{streamed}
+use Rattle.console.proofs.InputLaws.{streamed}
 use borrow.Author.Needs.{needs}
 use Rattle.roll.proofs.main.Statement.{statement}
 use Rattle.roll.proofs.main.Tie as tie

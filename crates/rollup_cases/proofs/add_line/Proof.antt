@@ -1,5 +1,5 @@
 -- `add_line` is safe: the count that `read_bytes` answers lies inside the buffer.
-use Rattle.cases.proofs.InputLaws.{counted}
+use Rattle.console.proofs.InputLaws.{counted}
 use borrow.Author.Needs.{needs}
 use Rattle.rollup_cases.proofs.add_line.Statement.{statement}
 use Rattle.rollup_cases.proofs.add_line.Tie as tie

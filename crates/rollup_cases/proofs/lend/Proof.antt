@@ -1,6 +1,6 @@
 -- `lend` meets its contract: the sizes lie inside the arrays.
 use native.Mathlib.Omega.{arith}
-use Rattle.cases.proofs.TextLaws.{front}
+use Rattle.console.proofs.TextLaws.{front}
 use borrow.Author.Needs.{needs}
 use Rattle.rollup_cases.proofs.lend.Statement.{statement}
 use Rattle.rollup_cases.proofs.lend.Tie as tie

@@ -1,6 +1,6 @@
 -- `write_line` is safe: the size lies inside the array.
 use native.Mathlib.Omega.{arith}
-use Rattle.cases.proofs.TextLaws.{front}
+use Rattle.console.proofs.TextLaws.{front}
 use borrow.Author.Needs.{needs}
 use Rattle.rollup_cases.proofs.write_line.Statement.{statement}
 use Rattle.rollup_cases.proofs.write_line.Tie as tie

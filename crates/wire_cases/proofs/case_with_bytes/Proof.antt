@@ -1,6 +1,6 @@
 -- `case_with_bytes` is safe: the count that `read_bytes` answers lies inside the buffer.
 use borrow.Author.Needs.{needs}
-use Rattle.cases.proofs.InputLaws.{counted}
+use Rattle.console.proofs.InputLaws.{counted}
 use Rattle.wire_cases.proofs.case_with_bytes.Statement.{statement}
 use Rattle.wire_cases.proofs.case_with_bytes.Tie as tie
 

@@ -4,8 +4,8 @@ use denote.Ref.{now}
 use mathlib.Core.Path.{_≡_, refl, sym, ap, _∙_}
 use Prim.Native.Nat.{_+_, _*_, _/_, _%_, _-_, _≤_, _<_}
 use lib.ListN.{length, take, drop, length-set}
-use Rattle.cases.specs.Input.{digitOf, hexOf, onto}
-use Rattle.cases.proofs.InputLaws.{hex-done, onto-nothing, hex-odd, hex-high, hex-low, hex-next}
+use Rattle.console.specs.Input.{digitOf, hexOf, onto}
+use Rattle.console.proofs.InputLaws.{hex-done, onto-nothing, hex-odd, hex-high, hex-low, hex-next}
 use Rattle.exports.specs.Hexadecimal.{lowered}
 use Rattle.exports.proofs.WordLaws.{lowered-length, lowered-at}
 use borrow.Author.Needs.{needs}

@@ -1,4 +1,4 @@
--- `put_number` meets its contract: the digits are those of `cases::output::signed`, and the byte stands behind them.
+-- `put_number` meets its contract: the digits are those of `console::output::signed`, and the byte stands behind them.
 use Prim.Native.Nat.{_+_, _-_}
 use native.Mathlib.Omega.{arith}
 use denote.Ref.{now}

@@ -5,8 +5,8 @@ use Prim.Native.Nat.{_-_, _≤_}
 use native.Mathlib.Omega.{arith}
 use lib.ListN.{length, take, drop, length-drop}
 use borrow.Author.Needs.{needs}
-use Rattle.cases.specs.Input.{onto}
-use Rattle.cases.proofs.TextLaws.{front}
+use Rattle.console.specs.Input.{onto}
+use Rattle.console.proofs.TextLaws.{front}
 use Rattle.roll_cases.specs.Expanding.{lineBytes}
 use Rattle.roll_cases.proofs.ExpandingLaws.{no-bytes, line-end, line-turn, line-refused, onto-end}
 use Rattle.roll_cases.proofs.expanding.expand.Statement.{statement}

@@ -5,8 +5,8 @@ use native.Mathlib.Omega.{arith}
 use lib.ListN.{length, take}
 use borrow.Rule.Slice.PartMut.{same-len-mid}
 use borrow.Author.Needs.{needs}
-use Rattle.cases.specs.Input.{hexOf, onto}
-use Rattle.cases.proofs.TextLaws.{front}
+use Rattle.console.specs.Input.{hexOf, onto}
+use Rattle.console.proofs.TextLaws.{front}
 use Rattle.roll_cases.specs.Expanding.{timesOf}
 use Rattle.roll_cases.proofs.ExpandingLaws.{times-none, times-turn, times-refused, onto-end, no-bytes}
 use Rattle.roll_cases.proofs.expanding.put_times.Statement.{statement}

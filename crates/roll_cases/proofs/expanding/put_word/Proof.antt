@@ -7,7 +7,7 @@ use native.Mathlib.Omega.{arith}
 use lib.ListN.{length, take}
 use lib.Seq.{length-take-le}
 use borrow.Author.Needs.{needs}
-use Rattle.cases.specs.Input.{numberMeans}
+use Rattle.console.specs.Input.{numberMeans}
 use Rattle.roll_cases.specs.Expanding.{wordBytes, Expands}
 use Rattle.roll_cases.proofs.ExpandingLaws.{no-number, none-long, word-none, word-times}
 use Rattle.roll_cases.proofs.expanding.put_word.Statement.{statement}

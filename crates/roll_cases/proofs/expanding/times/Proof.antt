@@ -5,7 +5,7 @@ use Prim.Native.Nat.{ℕ, _+_}
 use native.Mathlib.Omega.{arith}
 use borrow.Author.Needs.{needs}
 use Rattle.lists.proofs.MergingLaws.{rest-all}
-use Rattle.cases.specs.Input.{decimalOf, below64}
+use Rattle.console.specs.Input.{decimalOf, below64}
 use Rattle.roll_cases.proofs.ExpandingLaws.{no-star, past-star}
 use Rattle.roll_cases.proofs.expanding.times.Statement.{statement}
 use Rattle.roll_cases.proofs.expanding.times.Tie as tie

@@ -1,5 +1,0 @@
--- The laws of reading cases and of the text of answers.
-pub mod InputLaws
-pub mod OutputLaws
-pub mod RoundTrip
-pub mod TextLaws

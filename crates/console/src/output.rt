@@ -1,0 +1,113 @@
+// Making the text of an answer in a buffer, and writing it. What is written no contract can say, so each `print` function makes its text by
+// a function with a contract and hands it to `io::write_all`. A write that fails leaves the output short, which a comparison shows.
+ghost use mathlib.Core.Path.{_≡_};
+ghost use Prim.Native.Nat.{_+_, _*_, _≤_, _<_};
+ghost use lib.ListN.{length};
+ghost use lib.Seq.{sets};
+ghost use Rattle.io.specs.Digits.{glyph as Digits·glyph};
+ghost use Rattle.console.specs.Output.{allAre, widenedOf, HexPost, SignedPost};
+
+// Whether each byte is b.
+pub fn all_are(s: &[u8], b: u8) -> bool
+    ensures { λ r. ⌜ r ≡ allAre b (now (s .entry)) ⌝ }
+{
+    let mut i: usize = 0;
+    while i < s.len() {
+        if s[i] != b {
+            return false;
+        }
+        i += 1;
+    }
+    true
+}
+
+// The signed 32-bit number of these bits, as the 64-bit one.
+pub fn widened(v: u32) -> u64
+    ensures { λ r. ⌜ r ≡ widenedOf v ⌝ }
+{
+    if v < 0x8000_0000 {
+        v as u64
+    } else {
+        v as u64 + 0xffff_ffff_0000_0000
+    }
+}
+
+fn glyph(d: u8) -> u8
+    requires { ⌜ d < 16 ⌝ }
+    ensures { λ r. ⌜ r ≡ Digits·glyph d ⌝ }
+{
+    if d < 10 { 48 + d } else { 87 + d }
+}
+
+// Puts the bytes as lowercase hexadecimal at the front of `out`, and answers how long that is.
+pub fn hex(bytes: &[u8], out: &mut [u8]) -> usize
+    requires { ⌜ 2 * length (now bytes) ≤ length (now out) ⌝ }
+    ensures { λ r. ⌜ HexPost (now (bytes .entry)) (now (out .entry)) r (now (out .exit)) ⌝ }
+{
+    let mut at: usize = 0;
+    let mut i: usize = 0;
+    while i < bytes.len() {
+        let b = bytes[i];
+        out[at] = glyph(b / 16);
+        out[at + 1] = glyph(b % 16);
+        at += 2;
+        i += 1;
+    }
+    at
+}
+
+// Puts a piece into `out` at a position.
+fn put(out: &mut [u8], at: usize, piece: &[u8])
+    requires { ⌜ at + length (now piece) ≤ length (now out) ⌝ }
+    ensures { λ r. ⌜ now (out .exit) ≡ sets (now (out .entry)) at (now (piece .entry)) ⌝ }
+{
+    let mut i: usize = 0;
+    while i < piece.len() {
+        out[at + i] = piece[i];
+        i += 1;
+    }
+}
+
+// Puts the signed number of these 64 bits in decimal at the front of `out`, and answers how long that is.
+pub fn signed(v: u64, out: &mut [u8]) -> usize
+    requires { ⌜ 21 ≤ length (now out) ⌝ }
+    ensures { λ r. ⌜ SignedPost v (now (out .entry)) r (now (out .exit)) ⌝ }
+{
+    let mut digits = [0u8; 20];
+    if v < 0x8000_0000_0000_0000 {
+        let n = io::decimal(v, &mut digits);
+        put(out, 0, &digits[..n]);
+        return n;
+    }
+    let n = io::decimal(0xffff_ffff_ffff_ffff - v + 1, &mut digits);
+    out[0] = b'-';
+    put(out, 1, &digits[..n]);
+    n + 1
+}
+
+// The answer of each is whether all was written.
+pub fn print_signed(fd: i32, v: u64) -> bool {
+    let mut text = [0u8; 21];
+    let n = signed(v, &mut text);
+    io::write_all(fd, &text[..n])
+}
+
+fn print_some(fd: i32, bytes: &[u8]) -> bool
+    requires { ⌜ length (now bytes) ≤ 2048 ⌝ }
+{
+    let mut text = [0u8; 4096];
+    let n = hex(bytes, &mut text);
+    io::write_all(fd, &text[..n])
+}
+
+pub fn print_hex(fd: i32, bytes: &[u8]) -> bool {
+    let mut at: usize = 0;
+    while bytes.len() - at > 2048 {
+        let end = at + 2048;
+        if !print_some(fd, &bytes[at..end]) {
+            return false;
+        }
+        at = end;
+    }
+    print_some(fd, &bytes[at..])
+}
