@@ -4,7 +4,7 @@ use Prim.Native.Nat.{ℕ, _^_, _<_, _≤_}
 use mathlib.Core.Path.{_≡_, refl, sym, ap, _∙_, subst}
 use mathlib.Core.Bool.{Bool, true, false, cond}
 use mathlib.Core.Logic.{_⊎_, inl, inr, ⊎-elim}
-use mathlib.Core.List.{List, []}
+use mathlib.Core.List.{List, [], _++_}
 use native.Mathlib.Nat.{pos-of-ne-zero}
 use native.Mathlib.Omega.{arith}
 use lib.Dec.{leb, eqb}
@@ -146,7 +146,15 @@ module _ (a : Accumulator) (m : Mem) (room : ℕ) (bytes : List ℕ) (r : Added)
       ⊎-elim (λ (x : IsRefused a m r n). refused-keeps a m fit 0 (r .head) n (x .same))
       (λ (x : IsAccepted a m room bytes r n). accepted-keeps a m room (stateIn bytes) (valuesIn (stateIn bytes)) (x .ready) (r .head) n (x .shows)) add-view
 
--- ---- a run
+-- ---- lists of calls
+
+-- Steps after steps.
+pub steps-after : {a₀ : Accumulator} {m₀ : Mem} {c d : List Call} {a : Accumulator} {m : Mem} {b : Accumulator} {n : Mem} → Steps a₀ m₀ c a m → Steps a m d b n
+    → Steps a₀ m₀ (d ++ c) b n
+steps-after s begun = s
+steps-after s (adding room bytes r n t post) = adding room bytes r n (steps-after s t) post
+steps-after s (writing room out r n after t post) = writing room out r n after (steps-after s t) post
+steps-after s (moving n t post) = moving n (steps-after s t) post
 
 pub fresh-fits : (m : Mem) → fits fresh m ≡ true
 fresh-fits m = fit-none-back fresh m refl (record { no-kept = refl; no-waiting = refl })

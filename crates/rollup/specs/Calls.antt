@@ -138,8 +138,15 @@ pub record Agrees (first : Mem) (calls : List Call) (a : Accumulator) (m : Mem) 
   pub mask : a .allowed ≡ commonBits (states calls)
   pub registers : rollupRegisters (a .form) a m ≡ largestRegisters (states calls)
 
--- Demand 3 as document 01 words it is the case of calls among which no `moved` stands, all lent one `scratch`: "each call is given the head and the lent memory
--- as the last one left them".
+-- Calls that do not move the roll-up.
+unfoldable pub Unmoved : List Call → Type 0
+Unmoved [] = Unit
+Unmoved (added room bytes n ∷ calls) = Unmoved calls
+Unmoved (wrote room out n ∷ calls) = Unmoved calls
+Unmoved (moved ∷ calls) = ⊥
+
+-- Demand 3 as document 01 words it is the case of `Unmoved` calls that are all lent one `scratch`: "each call is given the head and the lent memory as the last
+-- one left them".
 unfoldable pub DemandThree : Type 0
 DemandThree = (first : Mem) (calls : List Call) (a : Accumulator) (m : Mem) (run : Run first calls a m) → NoZeroRank (states calls) → Agrees first calls a m run
 
