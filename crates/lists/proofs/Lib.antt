@@ -4,6 +4,7 @@ pub mod DecodingLaws
 pub mod CheckingLaws
 pub mod OrderLaws
 pub mod MergeLaws
+pub mod MergeSays
 pub mod MergingLaws
 pub mod SortingLaws
 pub mod DigitLaws
