@@ -1,4 +1,5 @@
 -- The laws of values, lists and registers, each file after those that it needs.
+pub mod CellLaws
 pub mod ValueLaws
 pub mod DecodingLaws
 pub mod CheckingLaws
