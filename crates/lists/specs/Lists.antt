@@ -150,7 +150,7 @@ unfoldable pub lastOfSlots : ℕ → ℕ → List ℕ → List ℕ
 lastOfSlots p s [] = []
 lastOfSlots p s (x ∷ l) = cond (sameSlotFirst p s x l) (lastOfSlots p s l) (x ∷ lastOfSlots p s l)
 
--- "The merge of two such lists ascends strictly, keeps the largest m per index, drops equal plain values."
+-- The merge: the sort of both, with the last value of each slot. That it is as document 01 says is the statement of specs/MergeSays.
 unfoldable pub merged : ℕ → ℕ → List ℕ → List ℕ → List ℕ
 merged p s a b = lastOfSlots p s (sortOf (a ++ b))
 
