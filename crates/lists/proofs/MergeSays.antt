@@ -1,4 +1,4 @@
--- The merge is as document 01 says (specs/MergeSays): marked values of one index are the values of one slot.
+-- Accepted lists and their merge are as document 01 says (specs/MergeSays): the marked values of one index are those of one slot.
 use mathlib.Core.Path.{_≡_, sym, ap, _∙_, subst}
 use mathlib.Core.List.{List, [], _∷_, List·Memᴰ, List·Memᴰ·cases-cons, List·Memᴰ·not-nil}
 use mathlib.Core.Bool.{true, false}
@@ -11,8 +11,9 @@ use Rattle.lists.specs.declared.merging.Merged.{Merged}
 use Rattle.lists.specs.Values.{mark, marked, markedIndex, markedRank, valid}
 use Rattle.lists.specs.Order.{Ascending}
 use Rattle.lists.specs.Lists.{written, slot, sameSlotFirst, merged, distinctSlots, MergePost}
-use Rattle.lists.specs.MergeSays.{Accepted, InEither, MarkedAt, PlainAt, LargestKept, MergeSays, MergeSentence}
+use Rattle.lists.specs.MergeSays.{SuchList, AcceptedSentence, InEither, MarkedAt, PlainAt, LargestKept, MergeSays, MergeSentence}
 use Rattle.lists.proofs.ValueLaws.{marked-ge}
+use Rattle.lists.proofs.DecodingLaws.{accepted}
 use Rattle.lists.proofs.OrderLaws.{ascending, ascending-least, least-mem}
 use Rattle.lists.proofs.MergeLaws.{mark-groups, marked-group, slot-marked, slot-group, slot-mono, distinct-first, distinct-rest, valid-mem, Kept, merged-ascends, merged-distinct, merged-rises, merged-from, merged-has, merged-plain, length-encode}
 
@@ -77,7 +78,7 @@ module _ (p s : ℕ) where
               omega (arith, t .larger, same, index-group i w (k .value) g its);
         }
 
-    module _ (left : Accepted p s a) (right : Accepted p s b) where
+    module _ (left : SuchList p s a) (right : SuchList p s b) where
       valid-in : (v : ℕ) → InEither a b v → valid p s v ≡ true
       valid-in v =
           ⊎-elim (λ (m : List·Memᴰ v a). valid-mem p s v a (left .allowed) m) (λ (m : List·Memᴰ v b). valid-mem p s v b (right .allowed) m)
@@ -97,6 +98,10 @@ module _ (p s : ℕ) where
                 λ (i v w : ℕ) (h : InEither a b v) (f : PlainAt p s i v) (k : InEither a b w) (g : MarkedAt p s i w).
                 (plain-kept v h (f .plain), largest-kept i w k g);
           }
+
+pub accepted-are : AcceptedSentence
+unfolding AcceptedSentence
+accepted-are p s bytes vs rest e = let a = accepted p s bytes e in record { order = a .rises; allowed = a .all }
 
 pub merge-says : MergeSentence
 unfolding MergeSentence

@@ -1,22 +1,27 @@
--- What document 01, module 4, says of the merge, as a statement about what `merge_dedupe_into` leaves: "The merge of two such lists ascends
--- strictly, keeps the largest m per index, drops equal plain values, and its byte count is the written length. A plain value and a marked one of
--- one index both stay."
+-- What document 01, module 4, says of accepted lists and of their merge, as statements: "Accepted lists never descend, and every value is valid. The
+-- merge of two such lists ascends strictly, keeps the largest m per index, drops equal plain values, and its byte count is the written length. A
+-- plain value and a marked one of one index both stay."
 use mathlib.Core.Path.{_≡_}
 use mathlib.Core.List.{List, List·Memᴰ}
 use mathlib.Core.Bool.{true, false}
 use mathlib.Core.Logic.{_⊎_}
 use Prim.Native.Nat.{ℕ, _≤_}
 use lib.ListN.{length, take}
+use Rattle.wire.specs.Reading.{got}
 use Rattle.lists.specs.declared.merging.Merged.{Merged}
 use Rattle.lists.specs.Values.{marked, markedIndex, markedRank, register}
 use Rattle.lists.specs.Sorting.{ascends}
 use Rattle.lists.specs.Order.{Rising}
-use Rattle.lists.specs.Lists.{allValid, encodeList, MergePost}
+use Rattle.lists.specs.Lists.{allValid, decodeOf, encodeList, MergePost}
 
--- "Such lists": "Accepted lists never descend, and every value is valid."
-pub record Accepted (p s : ℕ) (l : List ℕ) : Type 0 where
+-- "Never descend, and every value is valid."
+pub record SuchList (p s : ℕ) (l : List ℕ) : Type 0 where
   pub order : ascends l ≡ true
   pub allowed : allValid p s l ≡ true
+
+-- The values that bytes are read as, where they are not refused.
+unfoldable pub AcceptedSentence : Type 0
+AcceptedSentence = (p s : ℕ) (bytes vs rest : List ℕ) → decodeOf p s bytes ≡ got vs rest → SuchList p s vs
 
 -- A value that one of two lists has, or both.
 abbrev pub InEither : List ℕ → List ℕ → ℕ → Type 0
@@ -55,8 +60,8 @@ pub record MergeSays (p s : ℕ) (a b l : List ℕ) (bytes : ℕ) : Type 0 where
   -- "A plain value and a marked one of one index both stay."
   pub both : (i v w : ℕ) → InEither a b v → PlainAt p s i v → InEither a b w → MarkedAt p s i w → List·Memᴰ v l × LargestKept p s a b l i
 
--- `MergePost` is what the function promises: the first cells of its output hold the merge, and it answers how many they are and the byte count.
+-- `MergePost` is what `merge_dedupe_into` promises: the first cells of `out` hold the merge, and it answers how many they are and the byte count.
 unfoldable pub MergeSentence : Type 0
 MergeSentence =
-    (p s : ℕ) (a b : List ℕ) (r : Merged) (out : List ℕ) → Accepted p s a → Accepted p s b → MergePost p s a b r out
+    (p s : ℕ) (a b : List ℕ) (r : Merged) (out : List ℕ) → SuchList p s a → SuchList p s b → MergePost p s a b r out
     → MergeSays p s a b (take (r .len) out) (r .bytes)
