@@ -16,7 +16,7 @@ use Rattle.wire.proofs.VarintLaws.{side, len-last, len-more, len-pos, len-le}
 use Rattle.lists.proofs.ValueLaws.{decided, mark-sparse, below-mark, marked-ge, valid-plain}
 use Rattle.lists.specs.Values.{markBit, mark, marked, valid}
 use Rattle.lists.specs.Sorting.{ascends, insert, sortOf}
-use Rattle.lists.specs.Order.{Ascending, lastOf}
+use Rattle.lists.specs.Order.{Ascending, Rising, lastOf}
 use Rattle.lists.specs.Lists.{allValid, encodeFrom, encodeList, writtenFrom, written, slot, sameSlotFirst, lastOfSlots, merged, distinctSlots}
 use Rattle.lists.proofs.OrderLaws.{insert-least, least-below, least-mem, ascending-least, order, ascending, ascends-of, ascending-lower, ascends-sort, put-first, put-later, sort-of-ascends, sort-perm, sort-swap, perm-sort, mem-perm, length-sort}
 
@@ -295,11 +295,6 @@ pub valid-sort : (p s : ℕ) (l : List ℕ) → allValid p s l ≡ true → allV
 valid-sort p s l f = valid-perm p s (perm-sort l) f
 
 -- ---- the merge
-
--- Each value is above the one before it, and none is below n.
-abbrev pub Rising : ℕ → List ℕ → Type 0
-Rising n [] = Unit
-Rising n (x ∷ l) = (n ≤ x) × Rising (suc x) l
 
 rising-of : (p s n : ℕ) (l : List ℕ) → Ascending n l → distinctSlots p s l ≡ true → Rising n l
 rising-of p s n [] a d = tt

@@ -5,5 +5,6 @@ pub mod Order
 pub mod Digits
 pub mod Lists
 pub mod Merging
+pub mod MergeSays
 pub mod Registers
 pub mod Examples

@@ -101,10 +101,20 @@ allValid p s (v ∷ l) = valid p s v && allValid p s l
 unfoldable pub decodeOf : ℕ → ℕ → List ℕ → Read (List ℕ)
 decodeOf p s l = andThen (sumsOf p s (length l) l 0) (λ vs rest. cond (allValid p s vs) (got vs rest) (refused 20))
 
--- What `decode_validated_into` answers and leaves: the count and the values in the first cells, or the refusal's number.
+-- The count and the values in the first cells, or the refusal's number.
 abbrev pub Decodes : Read (List ℕ) → Decoded → List ℕ → Type 0
 Decodes (got vs l) r out = (r ≡ Done (length vs)) × (take (length vs) out ≡ vs)
 Decodes (refused n) r out = r ≡ Refused n
+
+-- The cells past the values of a list are as they were. Those that a refused list was read into are free: they hold anything, as many as before.
+abbrev pub DecodeFree : Decoded → List ℕ → List ℕ → Type 0
+DecodeFree (Done n) before after = drop n after ≡ drop n before
+DecodeFree (Refused n) before after = length after ≡ length before
+
+-- What `decode_validated_into` answers and leaves.
+pub record DecodePost (p s : ℕ) (bytes before : List ℕ) (r : Decoded) (after : List ℕ) : Type 0 where
+  pub answer : Decodes (decodeOf p s bytes) r after
+  pub free : DecodeFree r before after
 
 -- ---- writing
 
@@ -140,15 +150,9 @@ unfoldable pub lastOfSlots : ℕ → ℕ → List ℕ → List ℕ
 lastOfSlots p s [] = []
 lastOfSlots p s (x ∷ l) = cond (sameSlotFirst p s x l) (lastOfSlots p s l) (x ∷ lastOfSlots p s l)
 
--- "The merge of two such lists ascends strictly, keeps the largest m per index, drops equal plain values."
+-- The merge: the sort of both, with the last value of each slot. That it is as document 01 says is the statement of specs/MergeSays.
 unfoldable pub merged : ℕ → ℕ → List ℕ → List ℕ → List ℕ
 merged p s a b = lastOfSlots p s (sortOf (a ++ b))
-
--- What an insertion answers and leaves: the merge's list, and a byte count that changes as the written length does.
-pub record InsertPost (p s : ℕ) (a b : List ℕ) (before : ℕ) (r : Merged) (after : List ℕ) : Type 0 where
-  pub count : r .len ≡ length (merged p s a b)
-  pub bytes : r .bytes + written a ≡ before + written (merged p s a b)
-  pub values : take (r .len) after ≡ merged p s a b
 
 -- What a merge answers and leaves: the values in the first cells, how many they are, and "its byte count is the written length".
 pub record MergePost (p s : ℕ) (a b : List ℕ) (r : Merged) (after : List ℕ) : Type 0 where
@@ -172,11 +176,14 @@ apartBy d (x ∷ l) = cond (alikeFirst d x l) false (apartBy d l)
 
 -- ---- inserting
 
--- What a change of the first values, a, into b answers and leaves. One change adds no more than two gaps.
-pub record Leaves (a b : List ℕ) (before : ℕ) (r : Merged) (after : List ℕ) : Type 0 where
+-- What a change of the first values of a list into b answers and leaves: a byte count that changes as the written length does, and the cells past b
+-- as they were. One change drops no value and adds no more than two gaps.
+pub record Leaves (list : List ℕ) (len : ℕ) (b : List ℕ) (before : ℕ) (r : Merged) (after : List ℕ) : Type 0 where
   pub count : r .len ≡ length b
-  pub bytes : r .bytes + written a ≡ before + written b
+  pub bytes : r .bytes + written (take len list) ≡ before + written b
   pub values : take (r .len) after ≡ b
+  pub past : drop (r .len) after ≡ drop (r .len) list
+  pub more : len ≤ r .len
   pub few : r .bytes ≤ before + 10
 
 -- What such a change asks: the byte count is that of the list or more, and can grow.
@@ -200,6 +207,14 @@ pub record InsertPre (enc : Sparse) (union : List ℕ) (len : ℕ) (incoming : L
   pub distinct : distinctSlots (enc .«normal_precision») (enc .«sparse_precision») (take len union) ≡ true
   pub least : written (take len union) ≤ bytes
   pub most : bytes + 5 * length incoming < 2 ^ 63
+
+-- What `insert_dedupe` answers and leaves: the merge in the first cells, the cells past it as they were, and a byte count that changes as the
+-- written length does.
+pub record InsertPost (p s : ℕ) (union : List ℕ) (len : ℕ) (incoming : List ℕ) (before : ℕ) (r : Merged) (after : List ℕ) : Type 0 where
+  pub count : r .len ≡ length (merged p s (take len union) incoming)
+  pub bytes : r .bytes + written (take len union) ≡ before + written (merged p s (take len union) incoming)
+  pub values : take (r .len) after ≡ merged p s (take len union) incoming
+  pub past : drop (r .len) after ≡ drop (r .len) union
 
 -- ---- distinct sparse indices
 

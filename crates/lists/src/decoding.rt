@@ -6,7 +6,7 @@ ghost use mathlib.Core.Bool.{cond};
 ghost use Prim.Native.Nat.{_<_, _≤_};
 ghost use lib.ListN.{length};
 ghost use Rattle.lists.specs.Values.{marked, SparseFits};
-ghost use Rattle.lists.specs.Lists.{GapPost, StepPost, gapRefusal, stepRefusal, refusedHere, decodeOf, Decodes};
+ghost use Rattle.lists.specs.Lists.{GapPost, StepPost, gapRefusal, stepRefusal, refusedHere, DecodePost};
 use crate::values;
 use crate::values::Sparse;
 
@@ -159,7 +159,7 @@ fn later_plain(enc: Sparse, plain: u32, v: u32) -> u32
 pub fn decode_validated_into(bytes: &[u8], enc: Sparse, out: &mut [u32]) -> Decoded
     requires { ⌜ SparseFits enc ⌝ }
     requires { ⌜ length (now bytes) ≤ length (now out) ⌝ }
-    ensures { λ r. ⌜ Decodes (decodeOf (enc .«normal_precision») (enc .«sparse_precision») (now (bytes .entry))) r (now (out .exit)) ⌝ }
+    ensures { λ r. ⌜ DecodePost (enc .«normal_precision») (enc .«sparse_precision») (now (bytes .entry)) (now (out .entry)) r (now (out .exit)) ⌝ }
 {
     let mut at: usize = 0;
     let mut k: usize = 0;

@@ -42,7 +42,7 @@ decoded (refused m) r out n e p = absurd (true≢false (ap isDone (sym e ∙ p))
 pub merged-front : {p s : ℕ} {a b : List ℕ} (r : Merged) (out : List ℕ) → MergePost p s a b r out → Counts (r .len) out
 merged-front r out m = filled (r .len) out _ (m .count) (m .values)
 
-pub inserted-front : {p s : ℕ} {a b : List ℕ} {before : ℕ} (r : Merged) (out : List ℕ) → InsertPost p s a b before r out → Counts (r .len) out
+pub inserted-front : {p s : ℕ} {union : List ℕ} {len : ℕ} {incoming : List ℕ} {before : ℕ} (r : Merged) (out : List ℕ) → InsertPost p s union len incoming before r out → Counts (r .len) out
 inserted-front r out m = filled (r .len) out _ (m .count) (m .values)
 
 -- ---- tests of operands

@@ -340,7 +340,7 @@ module _ (enc : Encoding) (h : Accumulator) (sparse pending scratch : List ℕ) 
         ap (insertsNow (enc .«normal_precision») (enc .«sparse_precision») h (take (h .«sparse_len») sparse)) incoming-length ∙ sym answer
 
     pub union-inserted : t ≡ true
-        → InsertPost (enc .«normal_precision») (enc .«sparse_precision») (take (h .«sparse_len») sparse) (take k scratch) (h .«sparse_bytes») r after
+        → InsertPost (enc .«normal_precision») (enc .«sparse_precision») sparse (h .«sparse_len») (take k scratch) (h .«sparse_bytes») r after
         → UnionPost (enc .«normal_precision») (enc .«sparse_precision») h (take (h .«sparse_len») sparse) (take (h .«pending_len») pending) (take k scratch) r after
     unfolding unionBytes
     union-inserted it x =

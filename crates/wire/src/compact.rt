@@ -193,7 +193,8 @@ fn compact_field(s: &[u8], at: usize, f: Fields) -> CompactStep
     compact_number(s, at, f)
 }
 
-pub fn parse_compact(s: &[u8]) -> Compact
+// For `parse` alone, which answers for every state: how many this one leaves to the general reader is a matter of speed.
+pub(crate) fn parse_compact(s: &[u8]) -> Compact
     ensures { λ r. ⌜ CompactPost (now (s .entry)) r ⌝ }
 {
     let mut f = empty();

@@ -91,8 +91,8 @@ fn small_fields(s: &[u8], at: usize, value_type: u8) -> Fields
     }
 }
 
-// Each way makes its own fields: of an answer that is made in one place for both the compiler makes a call and a copy, which takes as long as the rest.
-pub fn parse_small_list(s: &[u8]) -> Compact
+// For `parse` alone, as `parse_compact` is. Each way makes its own fields: of an answer that is made in one place for both the compiler makes a call and a copy, which takes as long as the rest.
+pub(crate) fn parse_small_list(s: &[u8]) -> Compact
     ensures { λ r. ⌜ CompactPost (now (s .entry)) r ⌝ }
 {
     if s.len() < 8 {

@@ -22,10 +22,10 @@ enum-known-r : tie.Need-enum-known-r
 enum-known-r c = search needs
 
 array-share-prefix-values : tie.Need-array-share-prefix-values
-array-share-prefix-values c = decoded (decodeOf (c .before .before .before .before .before .before .before .before .args .enc .«normal_precision») (c .before .before .before .before .before .before .before .before .args .enc .«sparse_precision») (now (c .before .before .before .before .before .before .before .before .args .bytes))) (c .before .before .before .before .decode-validated-into .result) (c .before .before .before .before .decode-validated-into .last .1 .1 .0) (c .before .r .given .0 .0) (c .before .r .given .1) (c .before .before .before .before .decode-validated-into .ensures) .0
+array-share-prefix-values c = decoded (decodeOf (c .before .before .before .before .before .before .before .before .args .enc .«normal_precision») (c .before .before .before .before .before .before .before .before .args .enc .«sparse_precision») (now (c .before .before .before .before .before .before .before .before .args .bytes))) (c .before .before .before .before .decode-validated-into .result) (c .before .before .before .before .decode-validated-into .last .1 .1 .0) (c .before .r .given .0 .0) (c .before .r .given .1) (c .before .before .before .before .decode-validated-into .ensures .answer) .0
 
 slice-aggregate-print-list : tie.Need-slice-aggregate-print-list
-slice-aggregate-print-list c = decoded (decodeOf (c .before .before .before .before .before .before .before .before .before .args .enc .«normal_precision») (c .before .before .before .before .before .before .before .before .before .args .enc .«sparse_precision») (now (c .before .before .before .before .before .before .before .before .before .args .bytes))) (c .before .before .before .before .before .decode-validated-into .result) (c .before .before .before .before .before .decode-validated-into .last .1 .1 .0) (c .before .before .r .given .0 .0) (c .before .before .r .given .1) (c .before .before .before .before .before .decode-validated-into .ensures) .1
+slice-aggregate-print-list c = decoded (decodeOf (c .before .before .before .before .before .before .before .before .before .args .enc .«normal_precision») (c .before .before .before .before .before .before .before .before .before .args .enc .«sparse_precision») (now (c .before .before .before .before .before .before .before .before .before .args .bytes))) (c .before .before .before .before .before .decode-validated-into .result) (c .before .before .before .before .before .decode-validated-into .last .1 .1 .0) (c .before .before .r .given .0 .0) (c .before .before .r .given .1) (c .before .before .before .before .before .decode-validated-into .ensures .answer) .1
 
 print-list-requires : tie.Need-print-list-requires
 print-list-requires c κs = search needs

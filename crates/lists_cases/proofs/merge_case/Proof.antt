@@ -31,10 +31,10 @@ merge-dedupe-into-requires : tie.Need-merge-dedupe-into-requires
 merge-dedupe-into-requires c κs = can-merge (c .before .before .before .before .before .before .before .args .enc) (c .before .before .before .before .before .before .before .pre) (now (c .before .before .before .before .before .before .before .args .a)) (now (c .before .before .before .before .before .before .before .args .b)) _ (c .before .before .before .before .merges .ensures (not-false _ (c .before .before .before .if1 .left))) (c .before .before .merges2 .ensures (not-false _ (c .before .if2 .left))) (search needs)
 
 array-share-prefix-out : tie.Need-array-share-prefix-out
-array-share-prefix-out c = merged-front (c .before .merge-dedupe-into .result) (c .before .merge-dedupe-into .last .1 .1 .1 .0) (c .before .merge-dedupe-into .ensures) .0
+array-share-prefix-out c = merged-front (c .before .merge-dedupe-into .result) (c .before .merge-dedupe-into .last .1 .1 .1 .0) (c .before .merge-dedupe-into .ensures .merge) .0
 
 slice-aggregate-print-merged : tie.Need-slice-aggregate-print-merged
-slice-aggregate-print-merged c = merged-front (c .before .before .merge-dedupe-into .result) (c .before .before .merge-dedupe-into .last .1 .1 .1 .0) (c .before .before .merge-dedupe-into .ensures) .1
+slice-aggregate-print-merged c = merged-front (c .before .before .merge-dedupe-into .result) (c .before .before .merge-dedupe-into .last .1 .1 .1 .0) (c .before .before .merge-dedupe-into .ensures .merge) .1
 
 print-merged-requires : tie.Need-print-merged-requires
 print-merged-requires c κs = search needs

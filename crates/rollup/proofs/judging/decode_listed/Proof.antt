@@ -36,7 +36,7 @@ returns-2 c =
     listed-some (stateOf (now (o .args .bytes)) (o .args .f)) (now (c .before .before .before .before .before .before .sparse-data .result)) _
     (c .before .before .before .before .before .before .sparse-data .ensures) (c .before .before .before .before .new .result)
     (c .before .before .decode-validated-into .result) (c .before .before .before .before .new .ensures)
-    (c .before .before .decode-validated-into .ensures)
+    (c .before .before .decode-validated-into .ensures .answer)
 
 pub decode-listed-spec : {M : Type 1} → statement M
 decode-listed-spec =

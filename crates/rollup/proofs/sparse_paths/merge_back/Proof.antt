@@ -26,8 +26,8 @@ copy-run-requires c κs =
     let o = c .before .before .before .before .before .before .before .before .before .before in
     let a = o .args in
     let m = c .before .before .before .before .merge-dedupe-into in
-    let b = back-fits (a .enc) (now (a .sparse)) (a .n) (now (a .incoming)) (now (a .scratch)) (o .pre) (m .result) _ (m .ensures) in
-    (omega arith, back-scratch (a .enc) (now (a .sparse)) (a .n) (now (a .incoming)) (now (a .scratch)) (o .pre) (m .result) _ (m .ensures) (m .kept .1 .1 .1 .0), omega (arith, b, o .pre .room))
+    let b = back-fits (a .enc) (now (a .sparse)) (a .n) (now (a .incoming)) (now (a .scratch)) (o .pre) (m .result) _ (m .ensures .merge) in
+    (omega arith, back-scratch (a .enc) (now (a .sparse)) (a .n) (now (a .incoming)) (now (a .scratch)) (o .pre) (m .result) _ (m .ensures .merge) (m .kept .1 .1 .1 .0), omega (arith, b, o .pre .room))
 
 same-length : tie.Need-same-length
 same-length c = search needs
@@ -39,7 +39,7 @@ returns : tie.Need-returns
 returns c =
     let a = c .before .before .before .before .before .before .before .before .before .before .before .before .before .args in
     let m = c .before .before .before .before .before .before .before .merge-dedupe-into in
-    merge-copied (a .enc .«normal_precision») (a .enc .«sparse_precision») (take (a .n) (now (a .sparse))) (now (a .incoming)) (m .result) _ _ (c .before .before .copy-run .result) (c .before .before .copy-run .ensures .0) (c .before .before .copy-run .ensures .1) (m .ensures)
+    merge-copied (a .enc .«normal_precision») (a .enc .«sparse_precision») (take (a .n) (now (a .sparse))) (now (a .incoming)) (m .result) _ _ (c .before .before .copy-run .result) (c .before .before .copy-run .ensures .0) (c .before .before .copy-run .ensures .1) (m .ensures .merge)
 
 pub merge-back-spec : {M : Type 1} → statement M
 merge-back-spec =

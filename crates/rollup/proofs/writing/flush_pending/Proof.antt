@@ -31,13 +31,13 @@ slice-aggregate-merge-dedupe-into : tie.Need-slice-aggregate-merge-dedupe-into
 slice-aggregate-merge-dedupe-into c =
     let o = c .before .before .before .before .before .before .before .before .before .before .before in
     let a = o .args in
-    sym (ap length (ordered-front (a .enc) (now (a .kept)) (now (a .pending)) (a .w) (now (a .scratch)) (o .pre) (c .before .before .before .before .before .sort-runs .last .0) _ (c .before .before .before .before .before .sort-runs .ensures)) ∙ length-sort _ ∙ waiting-length (a .enc) (now (a .kept)) (now (a .pending)) (a .w) (now (a .scratch)) (o .pre))
+    sym (ap length (ordered-front (a .enc) (now (a .kept)) (now (a .pending)) (a .w) (now (a .scratch)) (o .pre) (c .before .before .before .before .before .sort-runs .last .0) _ (c .before .before .before .before .before .sort-runs .ensures .order)) ∙ length-sort _ ∙ waiting-length (a .enc) (now (a .kept)) (now (a .pending)) (a .w) (now (a .scratch)) (o .pre))
 
 merge-dedupe-into-requires : tie.Need-merge-dedupe-into-requires
 merge-dedupe-into-requires c κs =
     let o = c .before .before .before .before .before .before .before .before .before .before .before .before in
     let a = o .args in
-    flush-merge (a .enc) (now (a .kept)) (now (a .pending)) (a .w) (now (a .scratch)) (o .pre) (c .before .before .before .before .before .before .sort-runs .last .0) _ (c .before .before .before .before .before .before .sort-runs .ensures) (c .before .before .before .before .before .before .sort-runs .last .1 .0) (c .before .before .before .before .before .before .sort-runs .kept .1 .0)
+    flush-merge (a .enc) (now (a .kept)) (now (a .pending)) (a .w) (now (a .scratch)) (o .pre) (c .before .before .before .before .before .before .sort-runs .last .0) _ (c .before .before .before .before .before .before .sort-runs .ensures .order) (c .before .before .before .before .before .before .sort-runs .last .1 .0) (c .before .before .before .before .before .before .sort-runs .kept .1 .0)
 
 same-length : tie.Need-same-length
 same-length c = search needs
@@ -49,7 +49,7 @@ returns : tie.Need-returns
 returns c =
     let o = c .before .before .before .before .before .before .before .before .before .before .before .before .before .before .before in
     let a = o .args in
-    flush-post (a .enc) (now (a .kept)) (now (a .pending)) (a .w) (now (a .scratch)) (o .pre) (c .before .before .before .before .before .before .before .before .before .sort-runs .last .0) _ (c .before .before .before .before .before .before .before .before .before .sort-runs .ensures) (c .before .before .merge-dedupe-into .result) _ (c .before .before .merge-dedupe-into .ensures)
+    flush-post (a .enc) (now (a .kept)) (now (a .pending)) (a .w) (now (a .scratch)) (o .pre) (c .before .before .before .before .before .before .before .before .before .sort-runs .last .0) _ (c .before .before .before .before .before .before .before .before .before .sort-runs .ensures .order) (c .before .before .merge-dedupe-into .result) _ (c .before .before .merge-dedupe-into .ensures .merge)
 
 pub flush-pending-spec : {M : Type 1} → statement M
 flush-pending-spec =
