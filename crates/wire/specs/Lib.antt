@@ -7,4 +7,5 @@ pub mod View
 pub mod Compact
 pub mod SmallList
 pub mod Encoding
+pub mod Layout
 pub mod Examples
