@@ -30,9 +30,10 @@ unfoldable pub nestedLastIn : ℕ → List ℕ → Bool
 nestedLastIn zero l = false
 nestedLastIn (suc n) l = whenRead (pastField l) (λ t rest. cond (isNested t) (atEnd rest) (nestedLastIn n rest))
 
--- The layout: field 112 is there once, and nothing stands behind it. Before it stand any other outer fields, known or not, in any order and number, their
--- varints spelled in any way; inside it stands anything. So p, s and the data, which only a nested message holds, stand only there.
--- Not in the layout: bytes without field 112, with any field behind it (a second 112 too), or with an outer field that cannot be read.
+-- The layout: the nested message, field 112 of wire type 2, is there once, and nothing stands behind it. Before it stand any other outer fields, known or
+-- not, in any order and number, their varints spelled in any way; inside it stands anything. So p, s and the data, which only a nested message
+-- holds, stand only there. Not in the layout: bytes without a nested message, with any field behind it (a second one too), or with an outer field that
+-- cannot be read.
 unfoldable pub nestedLast : List ℕ → Bool
 nestedLast bytes = nestedLastIn (length bytes) bytes
 
