@@ -14,7 +14,7 @@ use Rattle.wire.proofs.BoolLaws.{both, both-true, said-yes, said-no}
 use Rattle.wire.specs.Reading.{Read, got, refused, andThen}
 use Rattle.wire.proofs.VarintLaws.{side}
 use Rattle.wire.specs.State.{HllState, State, bytesOrNone, stateOf, readState, whenPresent, HllInside, parsedMeans, ParsePost}
-use Rattle.wire.specs.Encoding.{CutReading, cut-refused, cut-before-hll}
+use Rattle.wire.specs.Layout.{CutReading, cut-refused, cut-before-hll}
 use Rattle.wire.specs.declared.state.Fields.{Fields}
 use Rattle.wire.specs.declared.state.Parsed.{Parsed}
 use Rattle.wire.specs.declared.state.Parsed.the-variants.{Read as StateRead, Refused as StateRefused}

@@ -1,4 +1,4 @@
--- The laws of the roll-up; `Agreement` and `WrittenRuns` have the theorems.
+-- The laws of the roll-up; `Agreement`, `WrittenRuns` and `CutLaws` have the theorems.
 pub mod DenseLaws
 pub mod AddLaws
 pub mod FitLaws
@@ -6,6 +6,7 @@ pub mod JudgeLaws
 pub mod SparseLaws
 pub mod WaysLaws
 pub mod WriteLaws
+pub mod CutLaws
 pub mod WrittenLaws
 pub mod KeepsLaws
 pub mod ViewLaws

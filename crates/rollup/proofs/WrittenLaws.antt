@@ -1,7 +1,7 @@
 -- What is written of a roll-up is read back, and no proper prefix of it is accepted: for readers of what was written.
 use Prim.Native.Nat.{ℕ, _+_, _^_, _<_, _≤_}
 use mathlib.Core.Path.{_≡_, refl, sym, ap, subst, _∙_}
-use mathlib.Core.Bool.{Bool, true, false, true≢false}
+use mathlib.Core.Bool.{true≢false}
 use mathlib.Core.List.{List, []}
 use mathlib.Core.Option.{Option, none, some}
 use native.Mathlib.Omega.{arith}
@@ -9,9 +9,10 @@ use lib.ListN.{length, take}
 use lib.Pow.{pow-mono}
 use Rattle.wire.specs.Reading.{got}
 use Rattle.wire.specs.State.{State, bytesOrNone, readState}
-use Rattle.wire.specs.Encoding.{FitsWidths, CutReading}
+use Rattle.wire.specs.Encoding.{FitsWidths}
+use Rattle.wire.specs.Layout.{nestedLast}
 use Rattle.wire.proofs.EncodingLaws.{hll-le}
-use Rattle.wire.proofs.RoundTrip.{round-trip, cut-reading}
+use Rattle.wire.proofs.RoundTrip.{round-trip, encode-last}
 use Rattle.lists.specs.Lists.{encodeList}
 use Rattle.lists.specs.Registers.{registersOf}
 use Rattle.lists.proofs.MergeLaws.{length-encode}
@@ -20,13 +21,13 @@ use Rattle.lists.proofs.RegisterLaws.{of-length}
 use Rattle.rollup.specs.declared.accumulator.Form.{Form}
 use Rattle.rollup.specs.declared.accumulator.Form.the-variants.{Unstarted, Sparse, Dense}
 use Rattle.rollup.specs.declared.accumulator.Accumulator.{Accumulator}
-use Rattle.rollup.specs.Accumulator.{Mem, fits, HeadWidths}
+use Rattle.rollup.specs.Accumulator.{Mem, HeadWidths}
 use Rattle.rollup.specs.Header.{dataOf}
-use Rattle.rollup.specs.Adding.{Outcome, isStarted, listedIn, judge, addOutcome}
+use Rattle.rollup.specs.Adding.{isStarted, listedIn, addOutcome}
+use Rattle.rollup.specs.Cuts.{NoCutAccepted}
 use Rattle.rollup.specs.Writing.{flushed, currentSize, stateWith, stateForm, writeOutcome}
 use Rattle.rollup.proofs.FitLaws.{fit-sparse, fit-dense, limit-small}
-use Rattle.rollup.proofs.JudgeLaws.{Refuses, cut-judged}
-use Rattle.rollup.proofs.AddLaws.{add-unfit, add-judged}
+use Rattle.rollup.proofs.CutLaws.{no-cut}
 use Rattle.rollup.proofs.WriteLaws.{WroteFacts, wrote-facts, list-state, dense-state, list-below, flushed-order, flushed-valid, size-fits}
 
 module _ (a : Accumulator) (m : Mem) (room space : ℕ) (wrote : writeOutcome a m room space .answer ≡ 0) where
@@ -88,18 +89,8 @@ module _ (a : Accumulator) (m : Mem) (room space : ℕ) (wrote : writeOutcome a 
   pub data-back : a .form ≡ Dense → dataOf state ≡ registersOf (a .precision) (m .registers)
   data-back e = ap dataOf (dense-state a m e)
 
-  -- No proper prefix of what was written is accepted, whatever the roll-up that it is added to: it is cut inside a field, which is 3, or it
-  -- ends before field 112 and so has p = 0, which 11 refuses, if no question before does.
+  -- No proper prefix of what was written is accepted, whatever the roll-up that it is added to: its nested message stands last.
   pub no-prefix-accepted : HeadWidths a → (k : ℕ) → k < length (writeOutcome a m room space .bytes) → (b : Accumulator) (n : Mem) (room′ : ℕ)
       → addOutcome b n room′ (take k (writeOutcome a m room space .bytes)) .answer ≡ 0 → ⊥
-  no-prefix-accepted w k h b n room′ e =
-      let bytes = take k (writeOutcome a m room space .bytes) in
-      let cut = cut-reading state (widths w) k (subst (λ (l : List ℕ). k < length l) (facts .bytes) h) in
-      let x = cut-judged b bytes (subst (λ (l : List ℕ). CutReading (readState (take k l))) (sym (facts .bytes)) cut) in
-      answered b n room′ bytes (fits b n) refl x e
-    where
-      answered : (b : Accumulator) (n : Mem) (room′ : ℕ) (bytes : List ℕ) (t : Bool) → fits b n ≡ t → Refuses (judge b bytes)
-          → addOutcome b n room′ bytes .answer ≡ 0 → ⊥
-      answered b n room′ bytes true f x e =
-          omega (arith, x .above, sym (ap (λ (o : Outcome). o .answer) (add-judged b n room′ bytes (x .number) f (x .is))) ∙ e)
-      answered b n room′ bytes false f x e = omega (arith, sym (ap (λ (o : Outcome). o .answer) (add-unfit b n room′ bytes f)) ∙ e)
+  unfolding NoCutAccepted
+  no-prefix-accepted w = no-cut (writeOutcome a m room space .bytes) (ap nestedLast (facts .bytes) ∙ encode-last state (widths w))

@@ -1,14 +1,13 @@
--- Laws of messages that were written field by field: reading one back, and reading one that is cut off.
+-- Laws of messages that were written field by field: reading one back.
 use Prim.Native.Nat.{ℕ, zero, suc, _+_, _-_, _%_, _^_, _<_, _≤_}
 use mathlib.Core.Path.{_≡_, refl, sym, ap, ap₂, _∙_, subst}
 use mathlib.Core.List.{List, [], _++_, append-assoc, append-nil}
 use mathlib.Core.Bool.{Bool, true, false, cond}
 use mathlib.Core.Option.{some}
-use mathlib.Core.Logic.{⊎-elim}
 use native.Mathlib.Nat.{mod-eq-of-lt}
 use native.Mathlib.Omega.{arith}
-use lib.ListN.{length, take, length-append}
-use lib.Seq.{take-append-le, take-append-add, take-at, drop-at, length-take-le}
+use lib.ListN.{length, length-append}
+use lib.Seq.{take-at, drop-at}
 use lib.Dec.{ltb, eqb}
 use borrow.Author.Tests.{eqb-true}
 use Rattle.wire.specs.Reading.{Read, got, refused, andThen}
@@ -16,8 +15,8 @@ use Rattle.wire.specs.Varints.{lowBits, varint64, varintBytes}
 use Rattle.wire.specs.Fields.{tag, VARINT, LEN, tagOf, bytesOf, delimitedOf, fieldOf, fieldsOf, messageOf}
 use Rattle.wire.specs.State.{int32}
 use Rattle.wire.specs.Encoding.{numberField, signExtended, int32Unless, lengthPrefix, bytesField}
-use Rattle.wire.proofs.VarintLaws.{side, len-pos, there-and-back, cut-short}
-use Rattle.wire.proofs.ReadingLaws.{then-same, is-tag, bytes-cut, bytes-got, fields-end, fields-step}
+use Rattle.wire.proofs.VarintLaws.{len-pos, there-and-back}
+use Rattle.wire.proofs.ReadingLaws.{then-same, is-tag, bytes-got, fields-end, fields-step}
 
 -- ---- what was written is read back, whatever follows
 
@@ -45,43 +44,6 @@ delimited-back d l h =
     ∙ then-same _ (varint64-back (length d) (d ++ l) h)
     ∙ bytes-back d l
 
--- ---- what was written and is cut off is refused with 3
-
-pub varint64-cut : (v k : ℕ) → k < length (varintBytes 10 v) → varint64 (take k (varintBytes 10 v)) ≡ refused 3
-unfolding varint64
-varint64-cut v k h = ap (λ (r : Read ℕ). lowBits 64 r) (cut-short 9 v k h)
-
-pub tag-cut : (t k : ℕ) → k < length (varintBytes 10 t) → tagOf (take k (varintBytes 10 t)) ≡ refused 3
-unfolding tagOf
-tag-cut t k h = then-same _ (varint64-cut t k h)
-
--- A prefix of two lists ends inside the first, or holds the first and a prefix of the second.
-pub take-two : (k : ℕ) (v w : List ℕ) → (P : List ℕ → Type 0)
-    → (k < length v → P (take k v))
-    → ((j : ℕ) → length v + j ≡ k → P (v ++ take j w))
-    → P (take k (v ++ w))
-take-two k v w P first second =
-    ⊎-elim (λ (h : k < length v). subst P (sym (take-append-le k v w (omega arith))) (first h))
-    (λ (h : length v ≤ k).
-    let e : length v + (k - length v) ≡ k = omega arith in
-    subst P (sym (take-append-add v w (k - length v)) ∙ ap (λ (n : ℕ). take n (v ++ w)) e) (second (k - length v) e)) (side k (length v))
-
-delimited-short : (d : List ℕ) (k : ℕ) → length d < 2 ^ 64 → k < length d → delimitedOf (varintBytes 10 (length d) ++ take k d) ≡ refused 3
-unfolding delimitedOf
-delimited-short d k h l =
-    then-same _ (varint64-back (length d) (take k d) h)
-    ∙ bytes-cut (length d) (take k d) (omega (arith, length-take-le k d (omega arith)))
-
-delimited-shorter : (n k : ℕ) → k < length (varintBytes 10 n) → delimitedOf (take k (varintBytes 10 n)) ≡ refused 3
-unfolding delimitedOf
-delimited-shorter n k h = then-same _ (varint64-cut n k h)
-
-pub delimited-cut : (d : List ℕ) (k : ℕ) → length d < 2 ^ 64 → k < length (varintBytes 10 (length d) ++ d)
-    → delimitedOf (take k (varintBytes 10 (length d) ++ d)) ≡ refused 3
-delimited-cut d k h l =
-    take-two k (varintBytes 10 (length d)) d (λ (x : List ℕ). delimitedOf x ≡ refused 3) (delimited-shorter (length d) k)
-    (λ (j : ℕ) (e : length (varintBytes 10 (length d)) + j ≡ k). delimited-short d j h (omega (arith, length-append (varintBytes 10 (length d)) d)))
-
 -- ---- messages
 
 module _ {A : Type 0} (field : ℕ → List ℕ → A → Read A) where
@@ -105,17 +67,9 @@ module _ {A : Type 0} (field : ℕ → List ℕ → A → Read A) where
   reads-refused l a k s e zero h = absurd (let z : ⊥ = omega arith in z)
   reads-refused l a k s e (suc n) h = fields-step field n l a s ∙ then-same _ e
 
-  -- After a tag that was written, the field is read.
-  value-from : (t : ℕ) → 8 ≤ t → t < 2 ^ 32 → (l : List ℕ) (a : A) → fieldOf field (varintBytes 10 t ++ l) a ≡ field t l a
-  value-from t low high l a = then-same _ (tag-back t l low high)
-
   -- w leads from a to b: reading goes on after it.
   pub record Leads (a b : A) (w : List ℕ) : Type 0 where
     pub on : (l : List ℕ) (r : Read A) → Reads l b r → Reads (w ++ l) a r
-
-  -- Every proper prefix of w reads as something for which P holds.
-  pub record Cuts (P : Read A → Type 0) (a : A) (w : List ℕ) : Type 0 where
-    pub cut : (k : ℕ) → k < length w → (r : Read A) × Reads (take k w) a r × P r
 
 module _ {A : Type 0} {field : ℕ → List ℕ → A → Read A} where
   pub leads-none : {a : A} → Leads field a a []
@@ -131,60 +85,22 @@ module _ {A : Type 0} {field : ℕ → List ℕ → A → Read A} where
   pub leads-message : {a b : A} {w : List ℕ} → Leads field a b w → messageOf field w a ≡ got b []
   leads-message {a} {b} {w} f = reads-message field w a (got b []) (leads-reads f)
 
-  module _ {P : Read A → Type 0} where
-    pub cuts-none : {a : A} → Cuts field P a []
-    cuts-none = record { cut = λ k h. absurd (let z : ⊥ = omega arith in z) }
-
-    pub cuts-both : {a b : A} {v w : List ℕ} → Leads field a b v → Cuts field P a v → Cuts field P b w → Cuts field P a (v ++ w)
-    cuts-both {a} {b} {v} {w} f c d =
-        record {
-          cut = λ k (h : k < length (v ++ w)).
-              take-two k v w (λ (x : List ℕ). (r : Read A) × Reads field x a r × P r) (c .cut k)
-              (λ (j : ℕ) (e : length v + j ≡ k).
-              let g : j < length w = omega (arith, length-append v w) in
-              let m = d .cut j g in (m .0, f .on (take j w) (m .0) (m .1), m .2));
-        }
-
-    pub cuts-message : {a : A} {w : List ℕ} (k : ℕ) → Cuts field P a w → k < length w → P (messageOf field (take k w) a)
-    cuts-message {a} {w} k c h = let m = c .cut k h in subst P (sym (reads-message field (take k w) a (m .0) (m .1))) (m .2)
-
   -- A field that was written: its tag, and the bytes v of its value.
-  module _ (t : ℕ) (tag-low : 8 ≤ t) (tag-high : t < 2 ^ 32) (v : List ℕ) {a : A} where
-    pub leads-field : {b : A} → ((l : List ℕ) → field t (v ++ l) a ≡ got b l) → Leads field a b (varintBytes 10 t ++ v)
-    leads-field {b} f =
-        record {
-          on = λ l r g.
-              subst (λ (x : List ℕ). Reads field x a r) (sym (append-assoc (varintBytes 10 t) v l))
-              (reads-field field (varintBytes 10 t ++ (v ++ l)) l a b r
-              (omega (arith, length-append (varintBytes 10 t) (v ++ l), length-append v l, len-pos 9 t))
-              (value-from field t tag-low tag-high (v ++ l) a ∙ f l) g);
-        }
-
-    -- Cut off before its first byte, nothing was read; cut off inside, it is refused.
-    pub cuts-field : {P : Read A → Type 0} → P (got a []) → P (refused 3) → ((k : ℕ) → k < length v → field t (take k v) a ≡ refused 3)
-        → Cuts field P a (varintBytes 10 t ++ v)
-    cuts-field {P} p q f = record { cut = prefix }
-      where
-        inside : (k : ℕ) → k < length (varintBytes 10 t ++ v) → fieldOf field (take k (varintBytes 10 t ++ v)) a ≡ refused 3
-        inside k h =
-            take-two k (varintBytes 10 t) v (λ (x : List ℕ). fieldOf field x a ≡ refused 3)
-            (λ (g : k < length (varintBytes 10 t)). then-same _ (tag-cut t k g))
-            (λ (j : ℕ) (e : length (varintBytes 10 t) + j ≡ k).
-            value-from field t tag-low tag-high (take j v) a ∙ f j (omega (arith, length-append (varintBytes 10 t) v)))
-
-        prefix : (k : ℕ) → k < length (varintBytes 10 t ++ v) → (r : Read A) × Reads field (take k (varintBytes 10 t ++ v)) a r × P r
-        prefix zero h = (got a [], reads-none field a, p)
-        prefix (suc k) h = (
-          refused 3,
-          reads-refused field (take (suc k) (varintBytes 10 t ++ v)) a 3
-              (omega (arith, length-take-le (suc k) (varintBytes 10 t ++ v) (omega arith))) (inside (suc k) h),
-          q,
-        )
+  leads-field : (t : ℕ) → 8 ≤ t → t < 2 ^ 32 → (v : List ℕ) {a b : A} → ((l : List ℕ) → field t (v ++ l) a ≡ got b l)
+      → Leads field a b (varintBytes 10 t ++ v)
+  leads-field t low high v {a} {b} f =
+      record {
+        on = λ l r g.
+            subst (λ (x : List ℕ). Reads field x a r) (sym (append-assoc (varintBytes 10 t) v l))
+            (reads-field field (varintBytes 10 t ++ (v ++ l)) l a b r
+            (omega (arith, length-append (varintBytes 10 t) (v ++ l), length-append v l, len-pos 9 t))
+            (then-same _ (tag-back t (v ++ l) low high) ∙ f l) g);
+      }
 
 -- ---- the writer's fields
 
 -- A 32-bit number, extended, fits 64 bits, and its low 32 bits are the number.
-extended-lt : (v : ℕ) → v < 2 ^ 32 → signExtended v < 2 ^ 64
+pub extended-lt : (v : ℕ) → v < 2 ^ 32 → signExtended v < 2 ^ 64
 extended-lt v h = go (ltb v (2 ^ 31))
   where
     go : (b : Bool) → cond b v (v + (2 ^ 64 - 2 ^ 32)) < 2 ^ 64
@@ -198,7 +114,7 @@ extended-back v h = go (ltb v (2 ^ 31))
     go true = omega arith
     go false = omega arith
 
-bytes-written : (f : ℕ) (d : List ℕ) → varintBytes 10 (tag f LEN) ++ (varintBytes 10 (length d) ++ d) ≡ bytesField f (some d)
+pub bytes-written : (f : ℕ) (d : List ℕ) → varintBytes 10 (tag f LEN) ++ (varintBytes 10 (length d) ++ d) ≡ bytesField f (some d)
 unfolding bytesField lengthPrefix
 bytes-written f d = sym (append-assoc (varintBytes 10 (tag f LEN)) (varintBytes 10 (length d)) d)
 
@@ -210,12 +126,6 @@ module _ {A : Type 0} {field : ℕ → List ℕ → A → Read A} (f : ℕ) (low
     leads-number h =
         leads-field (tag f VARINT) (omega arith) (omega arith) (varintBytes 10 v)
         (λ (l : List ℕ). reads (varintBytes 10 v ++ l) ∙ then-same _ (varint64-back v l h))
-
-    pub cuts-number : {P : Read A → Type 0} → P (got a []) → P (refused 3) → Cuts field P a (numberField f v)
-    unfolding numberField
-    cuts-number p q =
-        cuts-field (tag f VARINT) (omega arith) (omega arith) (varintBytes 10 v) p q
-        (λ (k : ℕ) (h : k < length (varintBytes 10 v)). reads (take k (varintBytes 10 v)) ∙ then-same _ (varint64-cut v k h))
 
   -- The same of a number's low 32 bits.
   module _ (becomes : ℕ → A) (reads : (l : List ℕ) → field (tag f VARINT) l a ≡ andThen (varint64 l) (λ x rest. got (becomes (int32 x)) rest)) where
@@ -233,14 +143,6 @@ module _ {A : Type 0} {field : ℕ → List ℕ → A → Read A} (f : ℕ) (low
           go true t = subst (λ (b : A). Leads field a b []) (sym (ap becomes (eqb-true v omitted t) ∙ e)) leads-none
           go false t = leads-int32 v h
 
-      pub cuts-unless : {P : Read A → Type 0} → P (got a []) → P (refused 3) → Cuts field P a (int32Unless omitted f v)
-      unfolding int32Unless
-      cuts-unless {P} p q = go (eqb v omitted)
-        where
-          go : (t : Bool) → Cuts field P a (cond t [] (numberField f (signExtended v)))
-          go true = cuts-none
-          go false = cuts-number (λ (x : ℕ). becomes (int32 x)) reads (signExtended v) p q
-
   -- Where `field` takes the bytes of the field f and goes on as `next` says.
   module _
       (next : List ℕ → List ℕ → Read A)
@@ -253,10 +155,3 @@ module _ {A : Type 0} {field : ℕ → List ℕ → A → Read A} (f : ℕ) (low
           subst (λ (w : List ℕ). Leads field a b w) (bytes-written f d)
           (leads-field (tag f LEN) (omega arith) (omega arith) (varintBytes 10 (length d) ++ d)
           (λ (l : List ℕ). reads (varintBytes 10 (length d) ++ d ++ l) ∙ then-same next (delimited-back d l short) ∙ e l))
-
-      pub cuts-bytes : {P : Read A → Type 0} → P (got a []) → P (refused 3) → Cuts field P a (bytesField f (some d))
-      cuts-bytes {P} p q =
-          subst (λ (w : List ℕ). Cuts field P a w) (bytes-written f d)
-          (cuts-field (tag f LEN) (omega arith) (omega arith) (varintBytes 10 (length d) ++ d) p q
-          (λ (k : ℕ) (h : k < length (varintBytes 10 (length d) ++ d)).
-          reads (take k (varintBytes 10 (length d) ++ d)) ∙ then-same next (delimited-cut d k short h)))

@@ -7,6 +7,7 @@ pub mod CompactLaws
 pub mod EncodingLaws
 pub mod BoundLaws
 pub mod FieldLaws
+pub mod CutLaws
 pub mod RoundTrip
 pub mod HeldLaws
 pub mod SmallListLaws

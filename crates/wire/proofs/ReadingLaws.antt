@@ -9,7 +9,7 @@ use native.Mathlib.Omega.{arith}
 use lib.Dec.{leb}
 use lib.ListN.{length, take, drop, drop-of-length-le, length-drop}
 use lib.Seq.{drop-drop}
-use borrow.Author.Tests.{lt-ltb, le-ltb, le-leb, lt-leb, eq-eqb, ne-eqb}
+use borrow.Author.Tests.{lt-ltb, le-ltb, le-leb, lt-leb, ne-eqb}
 use Rattle.wire.proofs.varint.Varint.{enum as varint-enum}
 use Rattle.wire.proofs.fields.Tag.{enum as tag-enum}
 use Rattle.wire.proofs.fields.Taken.{enum as taken-enum}
@@ -166,10 +166,17 @@ unfolding skipOf
 skip-varint-past p = record { answer = then-same _ (p .answer); inside = (omega (arith, p .inside .0), p .inside .1) }
 
 -- The wire type decides.
+pub skip-number : (t : ℕ) → t % 8 ≡ 0 → (l : List ℕ) → skipOf t l ≡ andThen (varint64 l) (λ v rest. got tt rest)
+unfolding skipOf
+skip-number t e l = rw e
+
+pub skip-bytes : (t : ℕ) → t % 8 ≡ 2 → (l : List ℕ) → skipOf t l ≡ andThen (delimitedOf l) (λ d rest. got tt rest)
+unfolding skipOf
+skip-bytes t e l = rw e
+
 module _ {s : List ℕ} {at t : ℕ} {r : Skipped} where
   pub skip-as : t % 8 ≡ 0 → SkipPost s 0 at r → SkipPost s t at r
-  unfolding skipOf
-  skip-as e p = record { answer = p .answer ∙ sym (rw (eq-eqb _ _ e)); inside = p .inside }
+  skip-as e p = record { answer = p .answer ∙ skip-number 0 refl (drop at s) ∙ sym (skip-number t e (drop at s)); inside = p .inside }
 
   from-taken : (k : Taken) {x : Read (List ℕ)} → r ≡ pastOf k → takenMeans s k ≡ x → TakenInside s at k
       → andThen x (λ (d rest : List ℕ). got tt rest) ≡ skipOf t (drop at s) → SkipPost s t at r
@@ -182,8 +189,7 @@ module _ {s : List ℕ} {at t : ℕ} {r : Skipped} where
     skip-fixed64 e p = from-taken k past (p .answer) (p .inside) (sym (rw e))
 
     pub skip-delimited : t % 8 ≡ 2 → DelimitedPost s at k → SkipPost s t at r
-    unfolding skipOf
-    skip-delimited e p = from-taken k past (p .answer) (p .inside) (sym (rw e))
+    skip-delimited e p = from-taken k past (p .answer) (p .inside) (sym (skip-bytes t e (drop at s)))
 
     pub skip-fixed32 : t % 8 ≡ 5 → TakePost s at 4 k → SkipPost s t at r
     unfolding skipOf

@@ -1,16 +1,25 @@
 -- What is written of a state is read back, and no proper prefix of it is read as the same fields.
-use Prim.Native.Nat.{ℕ, _+_, _^_, _<_}
-use mathlib.Core.Path.{_≡_, refl, subst}
-use mathlib.Core.List.{List, [], _++_}
+use Prim.Native.Nat.{ℕ, zero, suc, _+_, _^_, _<_, _≤_}
+use mathlib.Core.Path.{_≡_, refl, sym, ap, _∙_, subst}
+use mathlib.Core.List.{List, [], _++_, append-assoc, append-nil}
 use mathlib.Core.Option.{Option, none, some}
+use mathlib.Core.Bool.{Bool, true, false, cond}
 use native.Mathlib.Omega.{arith}
+use lib.Dec.{eqb}
 use lib.ListN.{length, take, length-append}
+use borrow.Author.Tests.{ne-eqb}
 use Rattle.wire.specs.Reading.{Read, got, andThen}
-use Rattle.wire.specs.State.{HllState, State, emptyHll, emptyState, int32, hllField, readHll, outerField, readState}
-use Rattle.wire.specs.Encoding.{numberField, signExtended, int32Unless, bytesField, hllNumbers, hllBytes, outerNumbers, encodeOf, FitsWidths, SameFields, CutReading, cut-refused, cut-before-hll}
-use Rattle.wire.proofs.ReadingLaws.{then-same}
+use Rattle.wire.specs.Varints.{varintBytes}
+use Rattle.wire.specs.Fields.{tag, VARINT, LEN, skipOf}
+use Rattle.wire.specs.State.{HllState, State, emptyHll, emptyState, hllField, readHll, outerField, readState}
+use Rattle.wire.specs.Encoding.{numberField, signExtended, int32Unless, bytesField, hllNumbers, hllBytes, outerNumbers, encodeOf, FitsWidths, SameFields}
+use Rattle.wire.specs.Layout.{pastField, whenRead, isNested, atEnd, nestedLastIn, nestedLast, CutReading, cut-refused, cut-before-hll}
+use Rattle.wire.proofs.BoolLaws.{whichever}
+use Rattle.wire.proofs.VarintLaws.{len-pos}
+use Rattle.wire.proofs.ReadingLaws.{then-same, skip-number, skip-bytes}
 use Rattle.wire.proofs.EncodingLaws.{field-ge}
-use Rattle.wire.proofs.FieldLaws.{Leads, leads-none, leads-both, leads-message, leads-number, leads-int32, leads-unless, leads-bytes, Cuts, cuts-both, cuts-message, cuts-number, cuts-unless, cuts-bytes}
+use Rattle.wire.proofs.FieldLaws.{varint64-back, tag-back, delimited-back, extended-lt, bytes-written, Leads, leads-none, leads-both, leads-message, leads-number, leads-int32, leads-unless, leads-bytes}
+use Rattle.wire.proofs.CutLaws.{cut-reading}
 
 -- ---- the nested message
 
@@ -85,31 +94,6 @@ unfolding outerField
 value-type-leads {t} {n} {v} {y} h =
     leads-unless 4 (omega arith) (omega arith) (λ (x : ℕ). stateWith t n v x emptyHll) (λ (l : List ℕ). refl) 0 y refl h
 
--- Cut off in front of a field, where no field of the nested message was read before.
-before : {t n v y : ℕ} → CutReading (got (stateWith t n v y emptyHll) [])
-before {t} {n} {v} {y} = cut-before-hll (stateWith t n v y emptyHll) refl
-
-type-cuts : (t : ℕ) → Cuts outerField CutReading emptyState (numberField 1 (signExtended t))
-unfolding outerField
-type-cuts t =
-    cuts-number 1 (omega arith) (omega arith) (λ (x : ℕ). stateWith (int32 x) 0 1 0 emptyHll) (λ (l : List ℕ). refl) (signExtended t)
-    before cut-refused
-
-count-cuts : {t : ℕ} (n : ℕ) → Cuts outerField CutReading (stateWith t 0 1 0 emptyHll) (numberField 2 n)
-unfolding outerField
-count-cuts {t} n =
-    cuts-number 2 (omega arith) (omega arith) (λ (x : ℕ). stateWith t x 1 0 emptyHll) (λ (l : List ℕ). refl) n before cut-refused
-
-version-cuts : {t n : ℕ} (v : ℕ) → Cuts outerField CutReading (stateWith t n 1 0 emptyHll) (int32Unless 1 3 v)
-unfolding outerField
-version-cuts {t} {n} v =
-    cuts-unless 3 (omega arith) (omega arith) (λ (x : ℕ). stateWith t n x 0 emptyHll) (λ (l : List ℕ). refl) 1 v before cut-refused
-
-value-type-cuts : {t n v : ℕ} (y : ℕ) → Cuts outerField CutReading (stateWith t n v 0 emptyHll) (int32Unless 0 4 y)
-unfolding outerField
-value-type-cuts {t} {n} {v} y =
-    cuts-unless 4 (omega arith) (omega arith) (λ (x : ℕ). stateWith t n v x emptyHll) (λ (l : List ℕ). refl) 0 y before cut-refused
-
 -- Field 112, where no field of the nested message was read before.
 abbrev nested : ℕ → ℕ → ℕ → ℕ → List ℕ → List ℕ → Read State
 nested t n v y m rest = andThen (readHll m emptyHll) (λ h nothing. got (stateWith t n v y h) rest)
@@ -120,9 +104,61 @@ module _ {t n v y : ℕ} (m : List ℕ) (short : length m < 2 ^ 64) where
   unfolding outerField
   nested-leads e = leads-bytes 112 (omega arith) (omega arith) (nested t n v y) (λ (l : List ℕ). refl) m short (λ (l : List ℕ). then-same _ e)
 
-  nested-cuts : Cuts outerField CutReading (stateWith t n v y emptyHll) (bytesField 112 (some m))
-  unfolding outerField
-  nested-cuts = cuts-bytes 112 (omega arith) (omega arith) (nested t n v y) (λ (l : List ℕ). refl) m short before cut-refused
+-- ---- the layout: what is written has its nested message last
+
+-- Bytes in the layout, however many fields are allowed, if only there are as many as bytes.
+abbrev NestedLast : List ℕ → Type 0
+NestedLast l = (n : ℕ) → length l ≤ n → nestedLastIn n l ≡ true
+
+-- A field that was written, its tag and the bytes v of its value, and l behind it.
+module _ (t : ℕ) (low : 8 ≤ t) (high : t < 2 ^ 32) (v l : List ℕ) (skips : skipOf t (v ++ l) ≡ got tt l) where
+  abbrev bytes : List ℕ
+  bytes = varintBytes 10 t ++ v ++ l
+
+  longer : length l < length bytes
+  longer = omega (arith, length-append (varintBytes 10 t ++ v) l, length-append (varintBytes 10 t) v, len-pos 9 t)
+
+  written-past : pastField bytes ≡ got t l
+  unfolding pastField
+  written-past = ap pastField (append-assoc (varintBytes 10 t) v l) ∙ then-same _ (tag-back t (v ++ l) low high) ∙ then-same _ skips
+
+  field-last : (b : Bool) → isNested t ≡ b → ((n : ℕ) → length l ≤ n → cond b (atEnd l) (nestedLastIn n l) ≡ true) → NestedLast bytes
+  unfolding nestedLastIn
+  field-last b i e zero h = absurd (let z : ⊥ = omega (arith, longer) in z)
+  field-last b i e (suc n) h =
+      ap (λ (r : Read ℕ). whenRead r (λ t rest. cond (isNested t) (atEnd rest) (nestedLastIn n rest))) written-past
+      ∙ ap (λ (x : Bool). cond x (atEnd l) (nestedLastIn n l)) i
+      ∙ e n (omega (arith, longer))
+
+nested-last : (m : List ℕ) → length m < 2 ^ 64 → NestedLast (bytesField 112 (some m))
+nested-last m h =
+    let t = tag 112 LEN in
+    let v = varintBytes 10 (length m) ++ m in
+    subst NestedLast (append-nil (varintBytes 10 t ++ v) ∙ bytes-written 112 m)
+    (field-last t (omega arith) (omega arith) v [] (skip-bytes t refl (v ++ []) ∙ then-same _ (delimited-back m [] h)) true refl (λ n i. refl))
+
+-- Fields that may stand before it.
+record Before (w : List ℕ) : Type 0 where
+  on : (l : List ℕ) → NestedLast l → NestedLast (w ++ l)
+
+before-both : {v w : List ℕ} → Before v → Before w → Before (v ++ w)
+before-both {v} {w} f g = record { on = λ l h. subst NestedLast (sym (append-assoc v w l)) (f .on (w ++ l) (g .on l h)) }
+
+number-before : (f : ℕ) → 0 < f → f < 2 ^ 28 → {v : ℕ} → v < 2 ^ 64 → Before (numberField f v)
+unfolding numberField
+number-before f low high {v} h =
+    let t = tag f VARINT in
+    record {
+      on = λ l e.
+          field-last t (omega arith) (omega arith) (varintBytes 10 v) l
+          (skip-number t (omega arith) (varintBytes 10 v ++ l) ∙ then-same _ (varint64-back v l h)) false
+          (ne-eqb t (tag 112 LEN) (λ (i : t ≡ tag 112 LEN). let z : ⊥ = omega arith in z)) e;
+    }
+
+unless-before : (omitted f : ℕ) → 0 < f → f < 2 ^ 28 → {v : ℕ} → v < 2 ^ 32 → Before (int32Unless omitted f v)
+unfolding int32Unless
+unless-before omitted f low high {v} h =
+    whichever Before (eqb v omitted) [] (numberField f (signExtended v)) (record { on = λ l e. e }) (number-before f low high (extended-lt v h))
 
 -- ---- what the two definitions say of each other
 
@@ -136,13 +172,6 @@ module _ (st : State) (w : FitsWidths st) where
   numbers-lead =
       leads-both (type-leads (w .aggregatorType))
       (leads-both (count-leads (w .numValues)) (leads-both (version-leads (w .encodingVersion)) (value-type-leads (w .valueType))))
-
-  numbers-cut : Cuts outerField CutReading emptyState (outerNumbers st)
-  unfolding outerNumbers
-  numbers-cut =
-      cuts-both (type-leads (w .aggregatorType)) (type-cuts (st .aggregatorType))
-      (cuts-both (count-leads (w .numValues)) (count-cuts (st .numValues))
-      (cuts-both (version-leads (w .encodingVersion)) (version-cuts (st .encodingVersion)) (value-type-cuts (st .valueType))))
 
   pub round-trip : readState (encodeOf st) ≡ got st []
   unfolding readState encodeOf
@@ -165,10 +194,14 @@ module _ (st : State) (w : FitsWidths st) where
         sparseData = refl;
       })
 
-  pub cut-reading : (k : ℕ) → k < length (encodeOf st) → CutReading (readState (take k (encodeOf st)))
-  unfolding readState encodeOf
-  cut-reading k h =
-      cuts-message k (cuts-both numbers-lead numbers-cut (nested-cuts (hllBytes (st .hll)) (w .nested))) h
+  pub encode-last : nestedLast (encodeOf st) ≡ true
+  unfolding nestedLast encodeOf outerNumbers
+  encode-last =
+      let numbers =
+      before-both (number-before 1 (omega arith) (omega arith) (extended-lt (st .aggregatorType) (w .aggregatorType)))
+      (before-both (number-before 2 (omega arith) (omega arith) (w .numValues))
+      (before-both (unless-before 1 3 (omega arith) (omega arith) (w .encodingVersion)) (unless-before 0 4 (omega arith) (omega arith) (w .valueType)))) in
+      numbers .on (bytesField 112 (some (hllBytes (st .hll)))) (nested-last (hllBytes (st .hll)) (w .nested)) (length (encodeOf st)) (omega arith)
 
 no-nested : (r : Read State) → CutReading r → (st : State) (l : List ℕ) → r ≡ got st l → st .hll ≡ emptyHll
 no-nested r cut-refused st l e = absurd (let z : _≡_ {A = ℕ} 0 1 = cc in let y : ⊥ = omega arith in y)
@@ -176,4 +209,4 @@ no-nested r (cut-before-hll st′ f) st l e = let same : st′ ≡ st = cc in su
 
 pub no-prefix : (st : State) → FitsWidths st → (st .hll ≡ emptyHll → ⊥) → (k : ℕ) → k < length (encodeOf st)
     → readState (take k (encodeOf st)) ≡ got st [] → ⊥
-no-prefix st w full k h e = full (no-nested (readState (take k (encodeOf st))) (cut-reading st w k h) st [] e)
+no-prefix st w full k h e = full (no-nested (readState (take k (encodeOf st))) (cut-reading (encodeOf st) (encode-last st w) k h) st [] e)

@@ -7,7 +7,7 @@ use mathlib.Core.Logic.{_⊎_, inl, inr, ⊎-elim}
 use native.Mathlib.Nat.{add-comm, mul-add, mul-comm, mul-assoc, mul-mod-left, add-zero, mod-add-mod, div-lt-iff-lt-mul, mod-le, mod-lt, lt-of-le-of-lt, zero-lt-suc}
 use native.Mathlib.Numerals.{add-one}
 use native.Mathlib.Omega.{arith}
-use lib.ListN.{length, set, drop, take, getD, drop-of-length-le}
+use lib.ListN.{length, set, drop, getD, drop-of-length-le}
 use lib.Seq.{drop-cons, sets}
 use lib.Pow.{mod-pow-add, high, low, shl-shr, pow-add}
 use lib.Bits.{bitOr, bitAnd, or-shifted-r, and-mask}
@@ -249,24 +249,6 @@ there-and-back (suc n) v l h =
     ⊎-elim (back-last (suc n) v l)
     (back-more (suc n) v l
     (there-and-back n (v / 128) l (rest-lt n v h))) (side v 128)
-
-cut-more : (n v k : ℕ) → 128 ≤ v → varintOf n (take k (varintBytes n (v / 128))) ≡ refused 3
-    → varintOf (suc n) (take (suc k) (varintBytes (suc n) v)) ≡ refused 3
-unfolding varintOf
-cut-more n v k l e =
-    let more : 128 ≤ v % 128 + 128 = omega arith in rw (bytes-more n v l, le-ltb _ _ more) (ap (payload ((v % 128 + 128) % 128)) e)
-
--- No proper prefix of what was written is read: it is cut.
-pub cut-short : (n v k : ℕ) → k < length (varintBytes (suc n) v) → varintOf (suc n) (take k (varintBytes (suc n) v)) ≡ refused 3
-unfolding varintOf
-cut-short zero v zero h = refl
-cut-short zero v (suc k) h = absurd (let z : ⊥ = omega (arith, len-le 1 v) in z)
-cut-short (suc n) v zero h = refl
-cut-short (suc n) v (suc k) h =
-    ⊎-elim (λ (l : v < 128). absurd (let z : ⊥ = omega (arith, len-last (suc n) v l) in z))
-    (λ (l : 128 ≤ v).
-    let g : k < length (varintBytes (suc n) (v / 128)) = omega (arith, len-more (suc n) v l) in cut-more (suc n) v k l (cut-short n (v / 128) k g))
-    (side v 128)
 
 -- Where the writer is: m is how many bytes more the number may have.
 pub record Left (out : List ℕ) (at v : ℕ) (done : List ℕ) (past : ℕ) : Type 0 where

@@ -9,10 +9,9 @@ use lib.Dec.{ltb, leb, eqb}
 use lib.ListN.{length, drop}
 use Rattle.wire.specs.declared.encoding.Encoded.{Encoded}
 use Rattle.wire.specs.declared.encoding.Encoded.the-variants.{Written, Short}
-use Rattle.wire.specs.Reading.{Read, got, refused}
 use Rattle.wire.specs.Varints.{varintBytes}
 use Rattle.wire.specs.Fields.{tag, VARINT, LEN}
-use Rattle.wire.specs.State.{HllState, State, emptyHll}
+use Rattle.wire.specs.State.{HllState, State}
 
 -- A field of wire type VARINT: its tag and its value.
 unfoldable pub numberField : ℕ → ℕ → List ℕ
@@ -84,11 +83,6 @@ pub record SameFields (st st′ : State) : Type 0 where
   pub sparsePrecision : st′ .hll .sparsePrecision ≡ st .hll .sparsePrecision
   pub «data» : st′ .hll .«data» ≡ st .hll .«data»
   pub sparseData : st′ .hll .sparseData ≡ st .hll .sparseData
-
--- What reading a written state that is cut off may find: 3, or a state without any field of the nested message.
-pub data CutReading : Read State → Type 0 where
-  cut-refused : CutReading (refused 3)
-  cut-before-hll : (st : State) → st .hll ≡ emptyHll → CutReading (got st [])
 
 -- What `encode` is to answer and write: document 01's question 23, "does the output fit?", and the bytes.
 pub record Output : Type 0 where

@@ -1,4 +1,4 @@
--- The definitions of the wire form: varints, fields, reading and writing a state, and the examples that they are held to.
+-- The definitions of the wire form: varints, fields, reading and writing a state, its layout, and the examples that they are held to.
 pub mod Reading
 pub mod Varints
 pub mod Fields
@@ -7,4 +7,5 @@ pub mod View
 pub mod Compact
 pub mod SmallList
 pub mod Encoding
+pub mod Layout
 pub mod Examples
