@@ -11,4 +11,3 @@ pub mod Accepting
 pub mod Judging
 pub mod Examples
 pub mod SparsePaths
-pub mod Knowing
