@@ -254,8 +254,12 @@ impl Rollup {
             s: x.sparse_precision,
             size: x.sparse_size,
             kept: x.sparse.len() as u64,
-            // The kept bytes of a dense head are 0.
-            bytes: if dense { 0 } else { x.sparse_bytes as u64 },
+            // Turning dense sets the kept bytes to 0, where the original leaves them; a head that was dense keeps its own.
+            bytes: match (dense, before.form) {
+                (false, _) => x.sparse_bytes as u64,
+                (true, DENSE) => before.bytes,
+                (true, _) => 0,
+            },
             waiting: x.pending.len() as u64,
         };
         self.kept[..x.sparse.len()].copy_from_slice(&x.sparse);

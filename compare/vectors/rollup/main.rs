@@ -243,7 +243,17 @@ fn wire(made: &mut Made) {
         made.call("a", &a[..n]);
     }
     made.form(UNSTARTED);
+    made.all.remark("A field behind the nested message can be cut off: such a state is accepted with it and without it, and so is one with two nested messages");
+    for state in ["0870 1802 8207 0c 1002180a200f 320421e28004 2008 1002", "0870 1802 8207 0c 1002180a200f 320421e28004 8207 02 1002"] {
+        let bytes = unhex(state);
+        for n in 0..=bytes.len() {
+            made.lend(1024, 8, 8, 8);
+            made.call("a", &bytes[..n]);
+        }
+        made.form(SPARSE);
+    }
     made.all.remark("3: a field is whole before it is opened; a varint that is cut after nine bytes. 4: ten bytes that go on");
+    made.lend(1024, 8, 8, 8);
     for (want, state) in [
         (3, "180282070507"),
         (3, "8207ffffffffffffffffff01"),
@@ -815,6 +825,18 @@ fn paths(made: &mut Made) {
     made.after(5, &[&list((5, 5), &[0, 1, 2, 16, 31, marked((5, 5), 3, 0), marked((5, 5), 4, 60)]), &dense((5, 5), &[0; 32]), &neither((4, 4))]);
     made.all.remark("A dense roll-up keeps its first state's sparse size; one that was a list has 0");
     made.after(4, &[&Fields { sparse_size: 42, ..dense((4, 9), &p4) }, &list((4, 9), &[3])]);
+    made.all.remark("A dense head keeps its kept bytes, which question 1 does not ask for, whatever is added; turning dense sets 0");
+    made.lend(16, 4, 4, 4);
+    made.set_registers(&p4);
+    made.head(Head { form: DENSE, allowed: 1, value_type: 8, num_values: 5, p: 4, s: 9, size: 3, bytes: 7, ..Head::default() });
+    made.add(0, &neither((4, 9)));
+    made.add(0, &list((4, 9), &[3]));
+    made.add(0, &dense((5, 10), &p5));
+    made.add(14, &dense((4, 9), &registers(4, &[(0, 62)])));
+    made.output("o", 64);
+    assert_eq!(made.roll.head.bytes, 7);
+    made.after(4, &[&list((4, 9), &[1, 2, 3]), &dense((4, 9), &p4), &neither((4, 9))]);
+    assert_eq!(made.roll.head.bytes, 0);
 }
 
 fn edges(made: &mut Made) {

@@ -14,7 +14,7 @@ use Rattle.rollup.specs.declared.accumulator.Accumulator.{Accumulator}
 use Rattle.rollup.specs.declared.adding.Added.{Added}
 use Rattle.rollup.specs.Accumulator.{Mem, fresh}
 use Rattle.rollup.specs.Adding.{Free, AddPost}
-use Rattle.rollup.specs.Calls.{Call, added, Run, begun, adding}
+use Rattle.rollup.specs.Calls.{Call, added, begun, adding, Run, Unmoved}
 use Rattle.batch.specs.declared.records.Ending.{Ending}
 use Rattle.batch.specs.declared.records.Ending.the-variants.{Whole, Refused, Full}
 use Rattle.batch.specs.Chain.{wordAt, nextAt, lengthAt, stateAt, isRecord, Chain, ends, onto, chainFrom, isBatch, chainOf}
@@ -163,13 +163,32 @@ never-full b cells h e = go (isBatch b) refl
 
 -- ---- the calls
 
-pub added-last : (states : List (List ℕ)) (answers : List ℕ) (s : List ℕ) (n : ℕ) (calls : List Call) → length states ≡ length answers
-    → addedAll (states ++ s ∷ []) (answers ++ n ∷ []) calls ≡ added s n ∷ addedAll states answers calls
+pub added-last : (room : ℕ) (states : List (List ℕ)) (answers : List ℕ) (s : List ℕ) (n : ℕ) (calls : List Call) → length states ≡ length answers
+    → addedAll room (states ++ s ∷ []) (answers ++ n ∷ []) calls ≡ added room s n ∷ addedAll room states answers calls
 unfolding addedAll
-added-last [] [] s n calls e = refl
-added-last [] (m ∷ answers) s n calls e = absurd (let z : ⊥ = omega arith in z)
-added-last (t ∷ states) [] s n calls e = absurd (let z : ⊥ = omega arith in z)
-added-last (t ∷ states) (m ∷ answers) s n calls e = added-last states answers s n (added t m ∷ calls) (let z : length states ≡ length answers = omega arith in z)
+added-last room [] [] s n calls e = refl
+added-last room [] (m ∷ answers) s n calls e = absurd (let z : ⊥ = omega arith in z)
+added-last room (t ∷ states) [] s n calls e = absurd (let z : ⊥ = omega arith in z)
+added-last room (t ∷ states) (m ∷ answers) s n calls e =
+    added-last room states answers s n (added room t m ∷ calls) (let z : length states ≡ length answers = omega arith in z)
+
+-- Behind others they are the same calls.
+pub added-after : (room : ℕ) (states : List (List ℕ)) (answers : List ℕ) (calls : List Call)
+    → addedAll room states answers calls ≡ addedAll room states answers [] ++ calls
+unfolding addedAll
+added-after room [] answers calls = refl
+added-after room (s ∷ states) [] calls = refl
+added-after room (s ∷ states) (n ∷ answers) calls =
+    added-after room states answers (added room s n ∷ calls)
+    ∙ sym (append-assoc (addedAll room states answers []) (added room s n ∷ []) calls)
+    ∙ ap (λ (l : List Call). l ++ calls) (sym (added-after room states answers (added room s n ∷ [])))
+
+-- None of them moves the roll-up.
+pub added-unmoved : (room : ℕ) (states : List (List ℕ)) (answers : List ℕ) (calls : List Call) → Unmoved calls → Unmoved (addedAll room states answers calls)
+unfolding addedAll Unmoved
+added-unmoved room [] answers calls u = u
+added-unmoved room (s ∷ states) [] calls u = u
+added-unmoved room (s ∷ states) (n ∷ answers) calls u = added-unmoved room states answers (added room s n ∷ calls) u
 
 -- ---- the walk
 
@@ -238,7 +257,7 @@ pub record Going (batch : List ℕ) (first : Mem) (room before at k : ℕ) (a : 
   pub few : k ≤ length old
   pub long : length answers ≡ length old
   pub untouched : drop k answers ≡ drop k old
-  pub run : Run room first (addedAll done (take k answers) []) a m
+  pub run : Run first (addedAll room done (take k answers) []) a m
   pub free : Free first m
 
 pub same-cells : (m : Mem) → Free m m
@@ -255,7 +274,7 @@ going-start batch m room at a old answers ok e f same =
       few = omega arith;
       long = ap length same;
       untouched = same;
-      run = subst (λ (h : Accumulator). Run room m [] h m) (sym f) begun;
+      run = subst (λ (h : Accumulator). Run m [] h m) (sym f) begun;
       free = same-cells m;
     }
 
@@ -275,7 +294,7 @@ module _ (batch : List ℕ) (first : Mem) (room before at k : ℕ) (a : Accumula
             (le-leb (length (chainOf batch .states)) (length old) some)
             ∙ ap (λ (x : ℕ). cond (eqb x 0) Whole (Refused x)) (walk-ending (g .walk) n e)
             ∙ f);
-        run = subst (λ (l : List (List ℕ)). Run room first (addedAll l (take k answers) []) a m) (sym front) (g .run);
+        run = subst (λ (l : List (List ℕ)). Run first (addedAll room l (take k answers) []) a m) (sym front) (g .run);
         untouched = g .untouched;
         free = g .free;
       }
@@ -300,7 +319,7 @@ module _ (batch : List ℕ) (first : Mem) (room before at k : ℕ) (a : Accumula
                 sym
                 (ap (λ (t : Bool). cond t (cond (eqb (chainOf batch .ending) 0) Whole (Refused (chainOf batch .ending))) Full)
                 (lt-leb (length (chainOf batch .states)) (length old) many));
-            run = subst (λ (l : List (List ℕ)). Run room first (addedAll l (take k answers) []) a m) (sym front) (g .run);
+            run = subst (λ (l : List (List ℕ)). Run first (addedAll room l (take k answers) []) a m) (sym front) (g .run);
             untouched = g .untouched;
             free = g .free;
           }
@@ -311,10 +330,10 @@ module _ (batch : List ℕ) (first : Mem) (room before at k : ℕ) (a : Accumula
           let put : take (k + 1) (set answers k (r .answer)) ≡ take k answers ++ r .answer ∷ [] =
           ap (λ (i : ℕ). take i (set answers k (r .answer))) (let z : k + 1 ≡ suc k = omega arith in z)
           ∙ take-suc-set answers k (r .answer) (omega (arith, g .long)) in
-          let calls : addedAll (g .done ++ stateAt batch at ∷ []) (take (k + 1) (set answers k (r .answer))) [] ≡ added s (r .answer) ∷ addedAll (g .done) (take k answers) [] =
-          ap (λ (l : List ℕ). addedAll (g .done ++ stateAt batch at ∷ []) l []) put
-          ∙ added-last (g .done) (take k answers) (stateAt batch at) (r .answer) [] (g .count ∙ sym (length-take-le k answers (omega (arith, g .long))))
-          ∙ ap (λ (l : List ℕ). added l (r .answer) ∷ addedAll (g .done) (take k answers) []) (sym f) in
+          let calls : addedAll room (g .done ++ stateAt batch at ∷ []) (take (k + 1) (set answers k (r .answer))) [] ≡ added room s (r .answer) ∷ addedAll room (g .done) (take k answers) [] =
+          ap (λ (l : List ℕ). addedAll room (g .done ++ stateAt batch at ∷ []) l []) put
+          ∙ added-last room (g .done) (take k answers) (stateAt batch at) (r .answer) [] (g .count ∙ sym (length-take-le k answers (omega (arith, g .long))))
+          ∙ ap (λ (l : List ℕ). added room l (r .answer) ∷ addedAll room (g .done) (take k answers) []) (sym f) in
           record {
             done = g .done ++ stateAt batch at ∷ [];
             walk = walk-turn (g .walk) index ok next e;
@@ -326,7 +345,7 @@ module _ (batch : List ℕ) (first : Mem) (room before at k : ℕ) (a : Accumula
                 ∙ sym (drop-drop 1 k answers)
                 ∙ ap (λ (l : List ℕ). drop 1 l) (g .untouched)
                 ∙ drop-drop 1 k old;
-            run = subst (λ (c : List Call). Run room first c (r .head) n) (sym calls) (adding s r n (g .run) post);
+            run = subst (λ (c : List Call). Run first c (r .head) n) (sym calls) (adding room s r n (g .run) post);
             free =
                 record {
                   registers = post .free .registers ∙ g .free .registers;
@@ -345,7 +364,7 @@ no-batch batch m room a old answers e f same =
     record {
       records = sym (ap length none);
       ending = sym (ap (λ (c : Chain). endingFor c (length old)) whole ∙ ap (λ (t : Bool). cond t (Refused 24) Full) (le-leb 0 (length old) (omega arith)));
-      run = subst (λ (l : List (List ℕ)). Run room m (addedAll l (take 0 answers) []) a m) (sym none) (subst (λ (h : Accumulator). Run room m [] h m) (sym f) begun);
+      run = subst (λ (l : List (List ℕ)). Run m (addedAll room l (take 0 answers) []) a m) (sym none) (subst (λ (h : Accumulator). Run m [] h m) (sym f) begun);
       untouched = same;
       free = same-cells m;
     }

@@ -1,8 +1,8 @@
 -- The closing numbers: the registers of a list, set in lent bytes and counted, and the count by the form.
 use Prim.Native.Nat.{ℕ, _<_, _≤_}
 use mathlib.Core.Path.{_≡_, refl, sym, ap, _∙_, subst}
-use mathlib.Core.List.{List, _++_}
-use mathlib.Core.Bool.{Bool, true, cond}
+use mathlib.Core.List.{List, [], _++_}
+use mathlib.Core.Bool.{Bool, true, false, cond, true≢false}
 use native.Mathlib.Omega.{arith}
 use lib.ListN.{length, take, drop, length-take, length-append}
 use borrow.Author.Tests.{le-leb, lt-leb}
@@ -14,16 +14,21 @@ use Rattle.lists.proofs.RankLaws.{zeros-raised}
 use Rattle.rollup.specs.declared.accumulator.Form.{Form}
 use Rattle.rollup.specs.declared.accumulator.Form.the-variants.{Unstarted, Sparse, Dense}
 use Rattle.rollup.specs.declared.accumulator.Accumulator.{Accumulator}
-use Rattle.rollup.specs.Accumulator.{Mem, fits}
+use Rattle.rollup.specs.Accumulator.{Mem, fits, fresh}
+use Rattle.rollup.specs.Adding.{isStarted}
 use Rattle.rollup.specs.Writing.{writeOutcome}
-use Rattle.rollup.specs.Calls.{listRegisters, rollupRegisters}
+use Rattle.rollup.specs.Calls.{Unmoved, listRegisters, rollupRegisters}
 use Rattle.rollup.proofs.FitLaws.{fit-sparse}
+use Rattle.rollup.proofs.ViewLaws.{fresh-fits}
+use Rattle.rollup.proofs.SpaceLaws.{steps-spacious}
 use Rattle.rollup.proofs.AgreementLaws.{list-row, registers-list, registers-dense}
 use Rattle.batch.specs.declared.closing.Count.{Count}
 use Rattle.batch.specs.declared.closing.Count.the-variants.{Registers, Short}
 use Rattle.batch.specs.declared.closing.Report.{Report}
 use Rattle.batch.specs.Chain.{chainOf}
-use Rattle.batch.specs.Closing.{countFor, ListCountPre, ReportPost}
+use Rattle.batch.specs.Batch.{addedAll, statesFor}
+use Rattle.batch.specs.Closing.{countFor, ListCountPre, ReportPost, NeverShort}
+use Rattle.batch.proofs.ChainLaws.{added-unmoved}
 
 -- A list's values, set in lent bytes and counted.
 module _ (p s : ℕ) (pair : Pair p s) (l bytes : List ℕ) (ok : allValid p s l ≡ true) (room : registerBytes p ≤ length bytes) where
@@ -85,3 +90,38 @@ pub written-inside : {batch : List ℕ} {first : Mem} {room : ℕ} {old : List �
 written-inside {room = room} {out = out} {r = r} p =
     let bytes = writeOutcome (r .rolled .head) (p .between) room (length out) .bytes in
     omega (arith, p .written .len, ap length (p .written .output), length-append bytes (drop (length bytes) out))
+
+-- ---- a list's registers always have room
+
+-- Whether a count was made.
+abbrev made : Count → Bool
+made (Registers n) = true
+made Short = false
+
+-- It was, where the registers of a list have room.
+count-made : (f : Form) (a : Accumulator) (m : Mem) (space : ℕ) → (f ≡ Sparse → registerBytes (a .precision) ≤ space) → made (countFor f a m space) ≡ true
+unfolding countFor
+count-made Unstarted a m space h = refl
+count-made Sparse a m space h =
+    ap (λ (t : Bool). made (cond t (Registers (notZero (rollupRegisters Sparse a m))) Short)) (le-leb (registerBytes (a .precision)) space (h refl))
+count-made Dense a m space h = refl
+
+no-calls : Unmoved []
+unfolding Unmoved
+no-calls = tt
+
+pub never-short : NeverShort
+unfolding NeverShort
+never-short batch first room old space out r m answers after p lent short =
+    let a = r .rolled .head in
+    let states = statesFor batch (length old) in
+    let left = take (r .rolled .records) answers in
+    let s =
+    steps-spacious (p .rolled .run) (added-unmoved room states left [] no-calls) (fresh-fits first)
+    (λ (t : isStarted (fresh .form) ≡ true). absurd (true≢false (sym t))) in
+    let inside : a .form ≡ Sparse → registerBytes (a .precision) ≤ space =
+    λ (e : a .form ≡ Sparse).
+    let x = s .space (ap isStarted e) in
+    let y = s .same in
+    omega arith in
+    true≢false (sym (ap made (p .count) ∙ count-made (a .form) a (p .between) space inside) ∙ ap made short)

@@ -13,11 +13,11 @@ use Rattle.batch.specs.declared.records.Ending.the-variants.{Whole, Refu
 use Rattle.batch.specs.declared.records.Rolled.{Rolled}
 use Rattle.batch.specs.Chain.{Chain, chainOf}
 
--- The calls that add these states and get these answers, after others. The latest stands first.
-unfoldable pub addedAll : List (List ℕ) → List ℕ → List Call → List Call
-addedAll [] answers calls = calls
-addedAll (s ∷ states) [] calls = calls
-addedAll (s ∷ states) (n ∷ answers) calls = addedAll states answers (added s n ∷ calls)
+-- The calls that add these states, with `room` cells of `scratch` each, and get these answers, after others. The latest stands first.
+unfoldable pub addedAll : ℕ → List (List ℕ) → List ℕ → List Call → List Call
+addedAll room [] answers calls = calls
+addedAll room (s ∷ states) [] calls = calls
+addedAll room (s ∷ states) (n ∷ answers) calls = addedAll room states answers (added room s n ∷ calls)
 
 -- How a chain ends for a caller that lends `cells` cells for the answers, one a record: `Full` where it has more records than that.
 abbrev pub endingFor : Chain → ℕ → Ending
@@ -32,6 +32,6 @@ statesFor batch cells = take cells (chainOf batch .states)
 pub record RolledPost (batch : List ℕ) (first : Mem) (room : ℕ) (r : Rolled) (m : Mem) (old answers : List ℕ) : Type 0 where
   pub records : r .records ≡ length (statesFor batch (length old))
   pub ending : r .ending ≡ endingFor (chainOf batch) (length old)
-  pub run : Run room first (addedAll (statesFor batch (length old)) (take (r .records) answers) []) (r .head) m
+  pub run : Run first (addedAll room (statesFor batch (length old)) (take (r .records) answers) []) (r .head) m
   pub untouched : drop (r .records) answers ≡ drop (r .records) old
   pub free : Free first m

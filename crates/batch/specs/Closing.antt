@@ -42,3 +42,9 @@ pub record ReportPost (batch : List ℕ) (first : Mem) (room : ℕ) (old : List 
   pub rolled : RolledPost batch first room (r .rolled) between old answers
   pub count : r .«not_zero» ≡ countFor (r .rolled .head .form) (r .rolled .head) between space
   pub written : WritePost (r .rolled .head) between room out (r .written) m after
+
+-- The piece is never too short where it is as long as the registers: question 17 has asked for these.
+unfoldable pub NeverShort : Type 0
+NeverShort =
+    (batch : List ℕ) (first : Mem) (room : ℕ) (old : List ℕ) (space : ℕ) (out : List ℕ) (r : Report) (m : Mem) (answers after : List ℕ)
+    → ReportPost batch first room old space out r m answers after → length (first .registers) ≤ space → r .«not_zero» ≡ Short → ⊥

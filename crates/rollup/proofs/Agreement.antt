@@ -4,7 +4,7 @@ use Prim.Native.Nat.{ℕ, _+_, _-_, _^_, _<_, _≤_, min}
 use mathlib.Core.Path.{_≡_, refl, sym, ap, ap₂, _∙_, subst}
 use mathlib.Core.Bool.{Bool, cond}
 use mathlib.Core.Logic.{⊎-elim}
-use mathlib.Core.List.{List, [], _∷_, map, List·Memᴰ, List·Memᴰ·head, List·Memᴰ·tail, List·Memᴰ·cases-cons, List·Memᴰ·not-nil, Memᴰ·map, Memᴰ·of-map}
+use mathlib.Core.List.{List, [], _∷_, map, List·Memᴰ, List·Memᴰ·head, List·Memᴰ·tail, List·Memᴰ·cases-cons, List·Memᴰ·not-nil, Memᴰ·of-map}
 use native.Mathlib.Nat.{min-le-left, min-le-right, le-of-eq}
 use native.Mathlib.Omega.{arith}
 use lib.Bits.{bitAnd}
@@ -19,9 +19,9 @@ use Rattle.rollup.specs.declared.adding.Added.{Added}
 use Rattle.rollup.specs.Accumulator.{Mem, fresh}
 use Rattle.rollup.specs.Header.{maskOf}
 use Rattle.rollup.specs.Adding.{signedMin, unchanged, isStarted, Shows}
-use Rattle.rollup.specs.Calls.{Call, added, wrote, Run, begun, adding, writing, accepted, stateIn, valuesIn, states, registersIn, over, smallestPrecision, smallestSparsePrecision, commonBits, largestRegisters, rollupRegisters, Answered, NoZeroRank, Agrees, DemandThree, OrderFree}
+use Rattle.rollup.specs.Calls.{Call, added, wrote, moved, Moved, Steps, begun, adding, writing, moving, Run, accepted, stateIn, valuesIn, states, registersIn, over, smallestPrecision, smallestSparsePrecision, commonBits, largestRegisters, rollupRegisters, Answered, NoZeroRank, Agrees, DemandThree, OrderFree}
 use Rattle.rollup.proofs.ViewLaws.{IsRefused, IsAccepted, add-view, run-fits, sparse-small}
-use Rattle.rollup.proofs.AgreementLaws.{lowered-here, Took, same-registers, in-length, first-took, more-took}
+use Rattle.rollup.proofs.AgreementLaws.{lowered-here, Took, same-registers, moved-registers, in-length, first-took, more-took}
 use Rattle.rollup.proofs.FoldLaws.{over-one, over-more, over-through, over-set, Any, min-joins, and-joins, Small, signed-joins, larger-joins}
 
 -- ---- one more state
@@ -100,6 +100,18 @@ stays (st ∷ sts) a m r n sh t =
       registers = same-registers a m r n sh ∙ t .registers;
     }
 
+-- Other memory.
+moves : (sts : List State) (a : Accumulator) (m n : Mem) → Moved a m n → Stands sts a m → Stands sts a n
+moves [] a m n mv e = e
+moves (st ∷ sts) a m n mv t =
+    record {
+      started = t .started;
+      precision = t .precision;
+      sparse-precision = t .sparse-precision;
+      mask = t .mask;
+      registers = moved-registers a m n mv ∙ t .registers;
+    }
+
 -- An accepted state.
 module _ (room : ℕ) (bytes : List ℕ) (a : Accumulator) (m : Mem) (r : Added) (n : Mem) (x : IsAccepted a m room bytes r n) where
   abbrev st : State
@@ -153,12 +165,12 @@ module _ (room : ℕ) (bytes : List ℕ) (a : Accumulator) (m : Mem) (r : Added)
 -- ---- over the run
 
 -- Which states a call of `add` makes of those before.
-module _ (bytes : List ℕ) (n : ℕ) (calls : List Call) where
-  accepted-yes : n ≡ 0 → accepted (added bytes n ∷ calls) ≡ bytes ∷ accepted calls
+module _ (room : ℕ) (bytes : List ℕ) (n : ℕ) (calls : List Call) where
+  accepted-yes : n ≡ 0 → accepted (added room bytes n ∷ calls) ≡ bytes ∷ accepted calls
   unfolding accepted
   accepted-yes e = ap (λ (b : Bool). cond b (bytes ∷ accepted calls) (accepted calls)) (eq-eqb n 0 e)
 
-  accepted-no : (n ≡ 0 → ⊥) → accepted (added bytes n ∷ calls) ≡ accepted calls
+  accepted-no : (n ≡ 0 → ⊥) → accepted (added room bytes n ∷ calls) ≡ accepted calls
   unfolding accepted
   accepted-no e = ap (λ (b : Bool). cond b (bytes ∷ accepted calls) (accepted calls)) (ne-eqb n 0 e)
 
@@ -166,37 +178,45 @@ accepted-none : accepted [] ≡ []
 unfolding accepted
 accepted-none = refl
 
-accepted-wrote : (out : List ℕ) (n : ℕ) (calls : List Call) → accepted (wrote out n ∷ calls) ≡ accepted calls
+accepted-wrote : (room : ℕ) (out : List ℕ) (n : ℕ) (calls : List Call) → accepted (wrote room out n ∷ calls) ≡ accepted calls
 unfolding accepted
-accepted-wrote out n calls = refl
+accepted-wrote room out n calls = refl
+
+accepted-moved : (calls : List Call) → accepted (moved ∷ calls) ≡ accepted calls
+unfolding accepted
+accepted-moved calls = refl
 
 abbrev Positive : List (List ℕ) → Type 0
 Positive bs = AllRanked (map stateIn bs)
 
-stands : {room : ℕ} {first : Mem} {calls : List Call} {a : Accumulator} {m : Mem} → Run room first calls a m → AllRanked (states calls) → Stands (states calls) a m
+stands : {first : Mem} {calls : List Call} {a : Accumulator} {m : Mem} → Run first calls a m → AllRanked (states calls) → Stands (states calls) a m
 stands {first = m} begun pos = subst (λ (bs : List (List ℕ)). Stands (map stateIn bs) fresh m) (sym accepted-none) refl
-stands {room} (adding {calls = calls} {a = a} {m = m} bytes r n run post) pos =
+stands (adding {calls = calls} {a = a} {m = m} room bytes r n run post) pos =
     ⊎-elim
     (λ (x : IsRefused a m r n).
-    let e = accepted-no bytes (r .answer) calls (x .number) in
+    let e = accepted-no room bytes (r .answer) calls (x .number) in
     subst (λ (bs : List (List ℕ)). Stands (map stateIn bs) (r .head) n) (sym e)
     (stays (states calls) a m (r .head) n (x .same) (stands run (subst Positive e pos))))
     (λ (x : IsAccepted a m room bytes r n).
-    let e = accepted-yes bytes (r .answer) calls (x .none) in
+    let e = accepted-yes room bytes (r .answer) calls (x .none) in
     let pos′ : Positive (bytes ∷ accepted calls) = subst Positive e pos in
     subst (λ (bs : List (List ℕ)). Stands (map stateIn bs) (r .head) n) (sym e)
     (grows room bytes a m r n x (states calls) (pos′ (stateIn bytes) (List·Memᴰ·head refl))
     (stands run (fewer-ranked (stateIn bytes) (states calls) pos′)))) (add-view a m room bytes r n (run-fits run) post)
-stands {room} (writing {calls = calls} {a = a} {m = m} out r n after run post) pos =
-    let e = accepted-wrote out (r .answer) calls in
+stands (writing {calls = calls} {a = a} {m = m} room out r n after run post) pos =
+    let e = accepted-wrote room out (r .answer) calls in
     subst (λ (bs : List (List ℕ)). Stands (map stateIn bs) a n) (sym e)
     (stays (states calls) a m a n (post .same) (stands run (subst Positive e pos)))
+stands (moving {calls = calls} {a = a} {m = m} n run post) pos =
+    let e = accepted-moved calls in
+    subst (λ (bs : List (List ℕ)). Stands (map stateIn bs) a n) (sym e) (moves (states calls) a m n post (stands run (subst Positive e pos)))
 
-answered : {room : ℕ} {first : Mem} {calls : List Call} {a : Accumulator} {m : Mem} (run : Run room first calls a m) → Answered run
+answered : {a₀ : Accumulator} {m₀ : Mem} {calls : List Call} {a : Accumulator} {m : Mem} (steps : Steps a₀ m₀ calls a m) → Answered steps
 unfolding Answered
 answered begun = tt
-answered (adding bytes r n run post) = (answered run, post .answer)
-answered (writing out r n after run post) = (answered run, post .answer)
+answered (adding room bytes r n steps post) = (answered steps, post .answer)
+answered (writing room out r n after steps post) = (answered steps, post .answer)
+answered (moving n steps post) = answered steps
 
 -- ---- the theorem
 
@@ -219,8 +239,8 @@ compared [] a m e =
 compared (st ∷ sts) a m t = record { precision = t .precision; sparse-precision = t .sparse-precision; mask = t .mask; registers = t .registers }
 
 -- The premise is asked only of states that are lowered: where all have one precision, of none.
-pub agrees : (room : ℕ) (first : Mem) (calls : List Call) (a : Accumulator) (m : Mem) (run : Run room first calls a m) → AllRanked (states calls) → Agrees room first calls a m run
-agrees room first calls a m run pos =
+pub agrees : (first : Mem) (calls : List Call) (a : Accumulator) (m : Mem) (run : Run first calls a m) → AllRanked (states calls) → Agrees first calls a m run
+agrees first calls a m run pos =
     let s = stands run pos in
     let c = compared (states calls) a m s in
     record {
@@ -234,27 +254,21 @@ agrees room first calls a m run pos =
 
 pub demand-three : DemandThree
 unfolding DemandThree NoZeroRank
-demand-three room first calls a m run pos =
-    agrees room first calls a m run (λ (s : State) (i : List·Memᴰ s (states calls)) (h : smallestPrecision (states calls) < s .hll .precision). pos s i)
+demand-three first calls a m run pos =
+    agrees first calls a m run (λ (s : State) (i : List·Memᴰ s (states calls)) (h : smallestPrecision (states calls) < s .hll .precision). pos s i)
 
 -- ---- the order is free
-
-module _ (c d : List (List ℕ)) (there : (bytes : List ℕ) → List·Memᴰ bytes c → List·Memᴰ bytes d) where
-  state-there : (s : State) → List·Memᴰ s (map stateIn c) → List·Memᴰ s (map stateIn d)
-  state-there s i =
-      let w = Memᴰ·of-map stateIn c i in
-      subst (λ (x : State). List·Memᴰ x (map stateIn d)) (w .2) (Memᴰ·map stateIn (there (w .0) (w .1)))
 
 all-small : (c : List (List ℕ)) (s : State) → List·Memᴰ s (map stateIn c) → s .hll .sparsePrecision < 2 ^ 32
 all-small c s i = let w = Memᴰ·of-map stateIn c i in subst (λ (x : State). x .hll .sparsePrecision < 2 ^ 32) (w .2) (sparse-small (w .0))
 
 pub order-free : OrderFree
 unfolding OrderFree DemandThree NoZeroRank largestRegisters
-order-free room room′ first first′ c d a b m n run run′ pos set =
-    let there = state-there (accepted c) (accepted d) (set .there) in
-    let back = state-there (accepted d) (accepted c) (set .back) in
-    let x = demand-three room first c a m run pos in
-    let y = demand-three room′ first′ d b n run′ (λ (s : State) (i : List·Memᴰ s (states d)). pos s (back s i)) in
+order-free first first′ c d a b m n run run′ pos set =
+    let there = set .there in
+    let back = set .back in
+    let x = demand-three first c a m run pos in
+    let y = demand-three first′ d b n run′ (λ (s : State) (i : List·Memᴰ s (states d)). pos s (back s i)) in
     let q = smallestPrecision (states c) in
     let low : q ≡ smallestPrecision (states d) =
     over-set Any 0 min (λ (s : State). s .hll .precision) min-joins (states c) (states d) there back (λ (s : State) (i : List·Memᴰ s (states c)). tt) in

@@ -5,7 +5,7 @@ use Prim.Native.Nat.{ℕ, _+_, _-_, _^_, _<_, _≤_, max, min}
 use mathlib.Core.Path.{_≡_, refl, sym, ap, ap₂, _∙_, subst}
 use mathlib.Core.Bool.{Bool, true, false, cond, not}
 use mathlib.Core.Logic.{⊎-elim}
-use mathlib.Core.List.{List, [], _++_, append-assoc, append-nil, List·Memᴰ}
+use mathlib.Core.List.{List, [], _++_, append-assoc, append-nil, List·Memᴰ, List·Permᴰ}
 use native.Mathlib.Nat.{min-le-right, min-eq-left, le-of-eq}
 use native.Mathlib.Omega.{arith}
 use lib.Dec.{ltb, eqb}
@@ -28,7 +28,7 @@ use Rattle.rollup.specs.Accumulator.{Mem, keptOf, waitingOf, limit}
 use Rattle.rollup.specs.Header.{dataOf, listOf, isEmpty, maskOf}
 use Rattle.rollup.specs.Adding.{After, unchanged, denseHead, commonMask, sumCount, startAfter, settle, waits, listAfter, sparseAfter, signedMin, signedKey, raisedByState, denseAfter, acceptedAfter, isStarted, Ready, Shows}
 use Rattle.rollup.specs.SparsePaths.{asList, asDense, asWaiting}
-use Rattle.rollup.specs.Calls.{valuesIn, listRegisters, registersIn, rollupRegisters}
+use Rattle.rollup.specs.Calls.{Moved, valuesIn, listRegisters, registersIn, rollupRegisters}
 use Rattle.rollup.proofs.FitLaws.{FitSparse, FitDense, fit-sparse, fit-dense}
 use Rattle.rollup.proofs.JudgeLaws.{JudgedFacts, judged-facts, none-is}
 use Rattle.rollup.proofs.KeepsLaws.{no-data, some-data, registers-room, vs-valid, both-valid}
@@ -78,6 +78,16 @@ pub registers-dense : (a : Accumulator) (m : Mem) → rollupRegisters Dense a m 
 unfolding rollupRegisters
 registers-dense a m = refl
 
+-- The order of the values that wait does not count.
+perm-registers : (p s : ℕ) {kept kept′ waiting waiting′ : List ℕ} → kept ≡ kept′ → List·Permᴰ waiting waiting′
+    → listRegisters p s (kept ++ waiting) ≡ listRegisters p s (kept′ ++ waiting′)
+perm-registers p s {kept} {kept′} {waiting} {waiting′} e f =
+    list-same p s (kept ++ waiting) (kept′ ++ waiting′)
+    (λ (j : ℕ).
+    rank-append p s j kept waiting
+    ∙ ap₂ max (ap (rankAt p s j) e) (rank-perm p s j f)
+    ∙ sym (rank-append p s j kept′ waiting′))
+
 module _ (x : After) (r : Accumulator) (n : Mem) (sh : Shows x r n) where
   left-form : (f : Form) → x .head .form ≡ f → rollupRegisters (r .form) r n ≡ rollupRegisters f r n
   left-form f e = ap (λ (g : Form). rollupRegisters g r n) (ap (λ (h : Accumulator). h .form) (sh .head) ∙ e)
@@ -90,14 +100,8 @@ module _ (x : After) (r : Accumulator) (n : Mem) (sh : Shows x r n) where
       → rollupRegisters (r .form) r n ≡ listRegisters (x .head .precision) (x .head .«sparse_precision») (x .kept ++ x .waiting)
   unfolding rollupRegisters
   left-list e =
-      let p = r .precision in
-      let s = r .«sparse_precision» in
       left-form Sparse e
-      ∙ list-same p s (keptOf r n ++ waitingOf r n) (x .kept ++ x .waiting)
-      (λ (j : ℕ).
-      rank-append p s j (keptOf r n) (waitingOf r n)
-      ∙ ap₂ max (ap (rankAt p s j) (sh .kept)) (rank-perm p s j (sh .waiting))
-      ∙ sym (rank-append p s j (x .kept) (x .waiting)))
+      ∙ perm-registers (r .precision) (r .«sparse_precision») (sh .kept) (sh .waiting)
       ∙ ap (λ (h : Accumulator). listRegisters (h .precision) (h .«sparse_precision») (x .kept ++ x .waiting)) (sh .head)
 
   left-dense : x .head .form ≡ Dense → rollupRegisters (r .form) r n ≡ registersOf (x .head .precision) (x .registers)
@@ -114,6 +118,16 @@ same-registers a m r n sh = by-form (a .form) refl
     by-form Unstarted e = left-none (unchanged a m) r n sh e ∙ sym (ap (λ (f : Form). rollupRegisters f a m) e)
     by-form Sparse e = left-list (unchanged a m) r n sh e ∙ sym (ap (λ (f : Form). rollupRegisters f a m) e)
     by-form Dense e = left-dense (unchanged a m) r n sh e ∙ sym (ap (λ (f : Form). rollupRegisters f a m) e)
+
+-- The same head with other memory.
+pub moved-registers : (a : Accumulator) (m n : Mem) → Moved a m n → rollupRegisters (a .form) a n ≡ rollupRegisters (a .form) a m
+unfolding rollupRegisters
+moved-registers a m n mv = by-form (a .form) refl
+  where
+    by-form : (f : Form) → a .form ≡ f → rollupRegisters f a n ≡ rollupRegisters f a m
+    by-form Unstarted e = refl
+    by-form Sparse e = perm-registers (a .precision) (a .«sparse_precision») (mv .kept) (mv .waiting)
+    by-form Dense e = mv .registers e
 
 -- What is compared, of a roll-up that was started.
 pub record Took (p s bits : ℕ) (regs : List ℕ) (r : Accumulator) (n : Mem) : Type 0 where
@@ -371,7 +385,8 @@ module _ (a : Accumulator) (m : Mem) (room : ℕ) (st : State) (ready : Ready a 
           let x : After =
           record {
             head =
-                denseHead (commonMask a st) (a .«value_type») (sumCount a st) least (signedMin (a .«sparse_precision») ss) (a .«sparse_size»);
+                denseHead (commonMask a st) (a .«value_type») (sumCount a st) least (signedMin (a .«sparse_precision») ss) (a .«sparse_size»)
+                (a .«sparse_bytes»);
             registers = withRegisters p (front ++ replicate (2 ^ p - 2 ^ least) 0) (m .registers);
             kept = [];
             waiting = [];

@@ -246,9 +246,9 @@ module _ (q : ℕ) (st : State) (vs registers : List ℕ) (pre : RaisePre q st v
 -- ---- heads
 
 -- A head whose numbers are others' names.
-pub dense-head-is : {x y v n m q s t z : ℕ} → x ≡ y → n ≡ m → s ≡ t → denseHead x v n q s z ≡ denseHead y v m q t z
-dense-head-is {x} {y} {v} {n} {m} {q} {s} {t} {z} e f g =
-    ap₂ (λ (a b : ℕ). denseHead a v b q s z) e f ∙ ap (λ (a : ℕ). denseHead y v m q a z) g
+pub dense-head-is : {x y v n m q s t z bytes : ℕ} → x ≡ y → n ≡ m → s ≡ t → denseHead x v n q s z bytes ≡ denseHead y v m q t z bytes
+dense-head-is {x} {y} {v} {n} {m} {q} {s} {t} {z} {bytes} e f g =
+    ap₂ (λ (a b : ℕ). denseHead a v b q s z bytes) e f ∙ ap (λ (a : ℕ). denseHead y v m q a z bytes) g
 
 pub list-head-is : {x y v n p s z len bytes : ℕ} → x ≡ y → listHead x v n p s z len bytes 0 ≡ listHead y v n p s z len bytes 0
 list-head-is {x} {y} {v} {n} {p} {s} {z} {len} {bytes} e = ap (λ (a : ℕ). listHead a v n p s z len bytes 0) e
@@ -338,6 +338,7 @@ module _ (a : Accumulator) (registers : List ℕ) (st : State) (vs : List ℕ) (
 
     pub dense-post : (r : Accumulator) (last : List ℕ) → last ≡ withRegisters q (raisedByState q st vs (registersOf q after)) after
         → r ≡ denseHead (commonMask a st) (a .«value_type») (sumCount a st) q (signedMin (a .«sparse_precision») (st .hll .sparsePrecision)) (a .«sparse_size»)
+        (a .«sparse_bytes»)
         → DensePost a registers st vs r last
     unfolding denseAfter
     dense-post r last e f =
@@ -348,7 +349,7 @@ module _ (a : Accumulator) (registers : List ℕ) (st : State) (vs : List ℕ) (
               ∙ ap
               (λ (n : ℕ).
               denseHead (commonMask a st) (a .«value_type») (sumCount a st) n (signedMin (a .«sparse_precision») (st .hll .sparsePrecision))
-              (a .«sparse_size»)) (post .smaller)) (raised-all last e) refl refl refl refl sparse pending;
+              (a .«sparse_size») (a .«sparse_bytes»)) (post .smaller)) (raised-all last e) refl refl refl refl sparse pending;
         }
 
 -- ---- the first state
@@ -414,7 +415,7 @@ module _ (registers sparse : List ℕ) (st : State) (vs : List ℕ) (pre : Start
 
     pub start-dense : (r : Accumulator) (after left : List ℕ) → (length row ≡ 0 → ⊥)
         → after ≡ withRegisters (st .hll .precision) (registersOf (st .hll .precision) row) registers
-        → r ≡ denseHead (maskOf (st .valueType)) (st .valueType) (st .numValues) (st .hll .precision) (st .hll .sparsePrecision) (st .hll .sparseSize)
+        → r ≡ denseHead (maskOf (st .valueType)) (st .valueType) (st .numValues) (st .hll .precision) (st .hll .sparsePrecision) (st .hll .sparseSize) 0
         → StartPost registers st vs r after left
     start-dense r after left h loaded head =
         let some = some-there st row same h in

@@ -96,10 +96,10 @@ module _ (mask valueType count p s size bytes : ℕ) (regs kept waiting : List �
       }))
 
 -- Registers of 2^q in front of the bytes.
-module _ (mask valueType count q s size : ℕ) (regs : List ℕ) (low : 4 ≤ q) (high : q ≤ 24) (pos : 0 < s) (room : registerBytes q ≤ length regs)
+module _ (mask valueType count q s size kept : ℕ) (regs : List ℕ) (low : 4 ≤ q) (high : q ≤ 24) (pos : 0 < s) (room : registerBytes q ≤ length regs)
     (small : largest (registersOf q regs) ≤ 88 - q) where
   abbrev densed : After
-  densed = record { head = denseHead mask valueType count q s size; registers = regs; kept = []; waiting = [] }
+  densed = record { head = denseHead mask valueType count q s size kept; registers = regs; kept = []; waiting = [] }
 
   dense-fits : (r : Accumulator) (n : Mem) → Shows densed r n → fits r n ≡ true
   dense-fits r n sh =
@@ -119,10 +119,10 @@ module _ (mask valueType count q s size : ℕ) (regs : List ℕ) (low : 4 ≤ q)
 module _ (mask valueType count p s size : ℕ) (row bytes : List ℕ) (low : 4 ≤ p) (high : p ≤ 24) (pos : 0 < s) (room : registerBytes p ≤ length bytes)
     (long : length row ≡ 2 ^ p) (small : largest row ≤ 88 - p) where
   row-fits : (r : Accumulator) (n : Mem)
-      → Shows (record { head = denseHead mask valueType count p s size; registers = withRegisters p row bytes; kept = []; waiting = [] }) r n
+      → Shows (record { head = denseHead mask valueType count p s size 0; registers = withRegisters p row bytes; kept = []; waiting = [] }) r n
       → fits r n ≡ true
   row-fits =
-      dense-fits mask valueType count p s size (withRegisters p row bytes) low high pos
+      dense-fits mask valueType count p s size 0 (withRegisters p row bytes) low high pos
       (with-room p bytes room row long (withRegisters p row bytes) refl)
       (subst (λ (l : List ℕ). largest l ≤ 88 - p) (sym (of-with p bytes room row long)) small)
 
@@ -434,7 +434,7 @@ module _ (a : Accumulator) (m : Mem) (room : ℕ) (st : State) (vs : List ℕ) (
         let row = raisedByState q st vs own in
         let left-over = with-length p (m .registers) (fit-d .room) (row ++ freed) whole-long in
         dense-fits (commonMask a st) (a .«value_type») (sumCount a st) q (signedMin (a .«sparse_precision») (st .hll .sparsePrecision))
-        (a .«sparse_size») (withRegisters p (row ++ freed) (m .registers)) q-low
+        (a .«sparse_size») (a .«sparse_bytes») (withRegisters p (row ++ freed) (m .registers)) q-low
         (let h : q ≤ 24 = omega (arith, q-own, fit-d .high) in h) least-pos
         (let h : registerBytes q ≤ length (withRegisters p (row ++ freed) (m .registers)) =
         omega (arith, left-over, fewer-bytes q p q-own, fit-d .room) in h)

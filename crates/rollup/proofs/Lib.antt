@@ -11,6 +11,7 @@ pub mod KeepsLaws
 pub mod ViewLaws
 pub mod KnowingLaws
 pub mod WidthLaws
+pub mod SpaceLaws
 pub mod AgreementLaws
 pub mod FoldLaws
 pub mod Agreement

@@ -4,7 +4,7 @@ use Prim.Native.Nat.{ℕ, _^_, _<_, _≤_}
 use mathlib.Core.Path.{_≡_, refl, sym, ap, _∙_, subst}
 use mathlib.Core.Bool.{Bool, true, false, cond}
 use mathlib.Core.Logic.{_⊎_, inl, inr, ⊎-elim}
-use mathlib.Core.List.{List, []}
+use mathlib.Core.List.{List, [], _++_}
 use native.Mathlib.Nat.{pos-of-ne-zero}
 use native.Mathlib.Omega.{arith}
 use lib.Dec.{leb, eqb}
@@ -19,7 +19,7 @@ use Rattle.rollup.specs.declared.adding.Added.{Added}
 use Rattle.rollup.specs.Accumulator.{Mem, fits, fresh}
 use Rattle.rollup.specs.Header.{listOf, headerAnswer}
 use Rattle.rollup.specs.Adding.{Outcome, unchanged, refuse, accept, acceptedAfter, masksMeet, carried, judgeState, judge, hasRoom, listedIn, addOutcome, Ready, Shows, AddPost}
-use Rattle.rollup.specs.Calls.{Call, Run, begun, adding, writing, valueOr, stateIn, valuesIn}
+use Rattle.rollup.specs.Calls.{Call, Steps, begun, adding, writing, moving, Run, valueOr, stateIn, valuesIn}
 use Rattle.rollup.proofs.FitLaws.{fit-none-back}
 use Rattle.rollup.proofs.JudgeLaws.{judged-same}
 use Rattle.rollup.proofs.AddLaws.{add-judged, add-full, add-listed, add-accepted}
@@ -146,16 +146,28 @@ module _ (a : Accumulator) (m : Mem) (room : ℕ) (bytes : List ℕ) (r : Added)
       ⊎-elim (λ (x : IsRefused a m r n). refused-keeps a m fit 0 (r .head) n (x .same))
       (λ (x : IsAccepted a m room bytes r n). accepted-keeps a m room (stateIn bytes) (valuesIn (stateIn bytes)) (x .ready) (r .head) n (x .shows)) add-view
 
--- ---- a run
+-- ---- lists of calls
+
+-- Steps after steps.
+pub steps-after : {a₀ : Accumulator} {m₀ : Mem} {c d : List Call} {a : Accumulator} {m : Mem} {b : Accumulator} {n : Mem} → Steps a₀ m₀ c a m → Steps a m d b n
+    → Steps a₀ m₀ (d ++ c) b n
+steps-after s begun = s
+steps-after s (adding room bytes r n t post) = adding room bytes r n (steps-after s t) post
+steps-after s (writing room out r n after t post) = writing room out r n after (steps-after s t) post
+steps-after s (moving n t post) = moving n (steps-after s t) post
 
 pub fresh-fits : (m : Mem) → fits fresh m ≡ true
 fresh-fits m = fit-none-back fresh m refl (record { no-kept = refl; no-waiting = refl })
 
--- Each call of a run gets what fits, so that question 1 is answered with yes all along.
-pub run-fits : {room : ℕ} {first : Mem} {calls : List Call} {a : Accumulator} {m : Mem} → Run room first calls a m → fits a m ≡ true
-run-fits {first = m} begun = fresh-fits m
-run-fits {room} (adding {a = a} {m = m} bytes r n run post) = add-keeps a m room bytes r n (run-fits run) post
-run-fits {room} (writing {a = a} {m = m} out r n after run post) = write-keeps a m room out r n after (run-fits run) post
+-- From a head that fits on, each call gets one that fits, so that question 1 is answered with yes all along.
+pub steps-fit : {a₀ : Accumulator} {m₀ : Mem} {calls : List Call} {a : Accumulator} {m : Mem} → Steps a₀ m₀ calls a m → fits a₀ m₀ ≡ true → fits a m ≡ true
+steps-fit begun fit = fit
+steps-fit (adding {a = a} {m = m} room bytes r n steps post) fit = add-keeps a m room bytes r n (steps-fit steps fit) post
+steps-fit (writing {a = a} {m = m} room out r n after steps post) fit = write-keeps a m room out r n after (steps-fit steps fit) post
+steps-fit (moving n steps post) fit = post .fit
+
+pub run-fits : {first : Mem} {calls : List Call} {a : Accumulator} {m : Mem} → Run first calls a m → fits a m ≡ true
+run-fits {first = m} run = steps-fit run (fresh-fits m)
 
 -- Whatever the bytes are, the sparse precision of their state is a number of 32 bits.
 pub sparse-small : (bytes : List ℕ) → stateIn bytes .hll .sparsePrecision < 2 ^ 32

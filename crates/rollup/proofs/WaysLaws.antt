@@ -30,7 +30,7 @@ startList m st vs =
 abbrev pub startDense : Mem → State → After
 startDense m st =
     record {
-      head = denseHead (maskOf (st .valueType)) (st .valueType) (st .numValues) (st .hll .precision) (st .hll .sparsePrecision) (st .hll .sparseSize);
+      head = denseHead (maskOf (st .valueType)) (st .valueType) (st .numValues) (st .hll .precision) (st .hll .sparsePrecision) (st .hll .sparseSize) 0;
       registers = withRegisters (st .hll .precision) (dataOf st) (m .registers);
       kept = [];
       waiting = [];

@@ -1,4 +1,4 @@
--- The numbers of a head fit their widths after every call of a run: what they are made of was read from a state, or wraps, or counts values.
+-- The numbers of a head fit their widths after every call: what they are made of was read from a state, or wraps, or counts values.
 use Prim.Native.Nat.{ℕ, _+_, _%_, _^_, _<_, _≤_}
 use mathlib.Core.Path.{_≡_, refl, sym, subst}
 use mathlib.Core.Bool.{true, false, not}
@@ -19,15 +19,14 @@ use Rattle.lists.proofs.DecodingLaws.{accepted}
 use Rattle.rollup.specs.declared.accumulator.Form.{Form}
 use Rattle.rollup.specs.declared.accumulator.Form.the-variants.{Unstarted, Sparse, Dense}
 use Rattle.rollup.specs.declared.accumulator.Accumulator.{Accumulator}
-use Rattle.rollup.specs.Accumulator.{Mem, keptOf, waitingOf, limit}
+use Rattle.rollup.specs.Accumulator.{Mem, keptOf, waitingOf, limit, fits, HeadWidths}
 use Rattle.rollup.specs.Header.{dataOf, listOf, isEmpty}
 use Rattle.rollup.specs.Adding.{After, signedMin, signedKey, waits, startAfter, settle, listAfter, sparseAfter, denseAfter, acceptedAfter, Ready}
-use Rattle.rollup.specs.Calls.{Call, Run, begun, adding, writing, valueOr, stateIn, valuesIn}
+use Rattle.rollup.specs.Calls.{Call, Steps, begun, adding, writing, moving, Run, valueOr, stateIn, valuesIn}
 use Rattle.rollup.proofs.FitLaws.{FitSparse, fit-sparse}
 use Rattle.rollup.proofs.SparseLaws.{counts-short}
 use Rattle.rollup.proofs.WaysLaws.{start-ways, settle-ways, list-ways, sparse-ways}
-use Rattle.rollup.proofs.WrittenLaws.{HeadWidths}
-use Rattle.rollup.proofs.ViewLaws.{IsRefused, IsAccepted, add-view, run-fits}
+use Rattle.rollup.proofs.ViewLaws.{IsRefused, IsAccepted, add-view, fresh-fits, steps-fit}
 
 -- The numbers of a state that bytes are.
 record StateWidths (st : State) : Type 0 where
@@ -128,12 +127,19 @@ module _ (a : Accumulator) (m : Mem) (room : ℕ) (st : State) (vs : List ℕ) (
   accepted-widths Sparse e = sparse-widths e
   accepted-widths Dense e = dense-widths
 
-pub run-widths : {room : ℕ} {first : Mem} {calls : List Call} {a : Accumulator} {m : Mem} → Run room first calls a m → HeadWidths a
-run-widths begun = record { value-type = omega arith; count = omega arith; sparse-precision = omega arith; size = omega arith }
-run-widths {room} (adding {a = a} {m = m} bytes r n run post) =
-    ⊎-elim (λ (x : IsRefused a m r n). subst HeadWidths (sym (x .same .head)) (run-widths run))
+pub steps-widths : {a₀ : Accumulator} {m₀ : Mem} {calls : List Call} {a : Accumulator} {m : Mem} → Steps a₀ m₀ calls a m → fits a₀ m₀ ≡ true → HeadWidths a₀
+    → HeadWidths a
+steps-widths begun fit w = w
+steps-widths (adding {a = a} {m = m} room bytes r n steps post) fit w =
+    ⊎-elim (λ (x : IsRefused a m r n). subst HeadWidths (sym (x .same .head)) (steps-widths steps fit w))
     (λ (x : IsAccepted a m room bytes r n).
     subst HeadWidths (sym (x .shows .head))
-    (accepted-widths a m room (stateIn bytes) (valuesIn (stateIn bytes)) (x .ready) (run-widths run) (state-widths bytes) (a .form) refl))
-    (add-view a m room bytes r n (run-fits run) post)
-run-widths (writing out r n after run post) = run-widths run
+    (accepted-widths a m room (stateIn bytes) (valuesIn (stateIn bytes)) (x .ready) (steps-widths steps fit w) (state-widths bytes) (a .form) refl))
+    (add-view a m room bytes r n (steps-fit steps fit) post)
+steps-widths (writing room out r n after steps post) fit w = steps-widths steps fit w
+steps-widths (moving n steps post) fit w = steps-widths steps fit w
+
+-- So `WrittenReads` and `NoPrefixAccepted` speak of every run.
+pub run-widths : {first : Mem} {calls : List Call} {a : Accumulator} {m : Mem} → Run first calls a m → HeadWidths a
+run-widths {first = m} run =
+    steps-widths run (fresh-fits m) (record { value-type = omega arith; count = omega arith; sparse-precision = omega arith; size = omega arith })

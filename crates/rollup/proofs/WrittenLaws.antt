@@ -20,7 +20,7 @@ use Rattle.lists.proofs.RegisterLaws.{of-length}
 use Rattle.rollup.specs.declared.accumulator.Form.{Form}
 use Rattle.rollup.specs.declared.accumulator.Form.the-variants.{Unstarted, Sparse, Dense}
 use Rattle.rollup.specs.declared.accumulator.Accumulator.{Accumulator}
-use Rattle.rollup.specs.Accumulator.{Mem, fits}
+use Rattle.rollup.specs.Accumulator.{Mem, fits, HeadWidths}
 use Rattle.rollup.specs.Header.{dataOf}
 use Rattle.rollup.specs.Adding.{Outcome, isStarted, listedIn, judge, addOutcome}
 use Rattle.rollup.specs.Writing.{flushed, currentSize, stateWith, stateForm, writeOutcome}
@@ -28,13 +28,6 @@ use Rattle.rollup.proofs.FitLaws.{fit-sparse, fit-dense, limit-small}
 use Rattle.rollup.proofs.JudgeLaws.{Refuses, cut-judged}
 use Rattle.rollup.proofs.AddLaws.{add-unfit, add-judged}
 use Rattle.rollup.proofs.WriteLaws.{WroteFacts, wrote-facts, list-state, dense-state, list-below, flushed-order, flushed-valid, size-fits}
-
--- The bounds that a head's numbers have by their types.
-pub record HeadWidths (a : Accumulator) : Type 0 where
-  pub value-type : a .«value_type» < 2 ^ 32
-  pub count : a .«num_values» < 2 ^ 64
-  pub sparse-precision : a .«sparse_precision» < 2 ^ 32
-  pub size : a .«sparse_size» < 2 ^ 32
 
 module _ (a : Accumulator) (m : Mem) (room space : ℕ) (wrote : writeOutcome a m room space .answer ≡ 0) where
   facts : WroteFacts a m room space

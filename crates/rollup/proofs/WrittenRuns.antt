@@ -1,4 +1,4 @@
--- What a run writes is its roll-up's state, and no proper prefix of it is accepted: `WrittenLaws` for the heads and memory that runs lead to.
+-- What is written of a roll-up is its state, with its registers, and no proper prefix of it is accepted: the theorems, from `WrittenLaws`.
 use Prim.Native.Nat.{ℕ, _^_, _<_, _≤_}
 use mathlib.Core.Path.{_≡_, refl, sym, ap, _∙_, subst}
 use mathlib.Core.Bool.{Bool, true, false, cond, true≢false}
@@ -27,7 +27,6 @@ use Rattle.rollup.proofs.FitLaws.{fit-dense}
 use Rattle.rollup.proofs.WriteLaws.{WroteFacts, wrote-facts, flushed-none, flushed-some, list-state, dense-state}
 use Rattle.rollup.proofs.WrittenLaws.{read-back, list-back, data-back, no-prefix-accepted}
 use Rattle.rollup.proofs.AgreementLaws.{list-merged, registers-list, registers-dense}
-use Rattle.rollup.proofs.WidthLaws.{run-widths}
 
 -- ---- the state that is written
 
@@ -102,7 +101,7 @@ module _ (a : Accumulator) (m : Mem) (room space : ℕ) (wrote : writeOutcome a 
             registers = dense-registers e;
           }
 
--- ---- after a run
+-- ---- the theorems
 
 module _ (a : Accumulator) (m : Mem) (room : ℕ) (out : List ℕ) (r : Written) (n : Mem) (after : List ℕ) (post : WritePost a m room out r n after) where
   abbrev bytes : List ℕ
@@ -119,10 +118,10 @@ module _ (a : Accumulator) (m : Mem) (room : ℕ) (out : List ℕ) (r : Written)
 
 pub written-reads : WrittenReads
 unfolding WrittenReads stateIn
-written-reads room first calls a m run out r n after post z =
+written-reads a m room out r n after w post z =
     let wrote : writeOutcome a m room (length out) .answer ≡ 0 = sym (post .answer) ∙ z in
     let read : readState (take (r .len) after) ≡ got (stateForm (a .form) a m) [] =
-    ap readState (front a m room out r n after post) ∙ read-back a m room (length out) wrote (run-widths run) in
+    ap readState (front a m room out r n after post) ∙ read-back a m room (length out) wrote w in
     let same : stateIn (take (r .len) after) ≡ stateForm (a .form) a m = ap (valueOr emptyState) read in
     let is = state-is a m room (length out) wrote in
     record {
@@ -134,7 +133,7 @@ written-reads room first calls a m run out r n after post z =
 
 pub no-prefix : NoPrefixAccepted
 unfolding NoPrefixAccepted
-no-prefix room first calls a m run out r n after post z k h b l room′ e =
+no-prefix a m room out r n after w post z k h b l room′ e =
     let wrote : writeOutcome a m room (length out) .answer ≡ 0 = sym (post .answer) ∙ z in
-    no-prefix-accepted a m room (length out) wrote (run-widths run) k (subst (λ (x : ℕ). k < x) (post .len) h) b l room′
+    no-prefix-accepted a m room (length out) wrote w k (subst (λ (x : ℕ). k < x) (post .len) h) b l room′
     (subst (λ (x : List ℕ). addOutcome b l room′ x .answer ≡ 0) (shorter a m room out r n after post k h) e)

@@ -1,7 +1,7 @@
 -- The accumulator (document 01's head) and its lent memory, and what fits (question 1).
 use mathlib.Core.List.{List}
 use mathlib.Core.Bool.{Bool, _&&_, _||_, not}
-use Prim.Native.Nat.{ℕ, _+_, _-_, _*_, _^_}
+use Prim.Native.Nat.{ℕ, _+_, _-_, _*_, _^_, _<_}
 use lib.Dec.{ltb, leb, eqb}
 use lib.ListN.{length, take}
 use Rattle.lists.specs.Sorting.{ascends}
@@ -89,6 +89,13 @@ fresh =
       «sparse_bytes» = 0;
       «pending_len» = 0;
     }
+
+-- The bounds that a head's numbers have by their types.
+pub record HeadWidths (a : Accumulator) : Type 0 where
+  pub value-type : a .«value_type» < 2 ^ 32
+  pub count : a .«num_values» < 2 ^ 64
+  pub sparse-precision : a .«sparse_precision» < 2 ^ 32
+  pub size : a .«sparse_size» < 2 ^ 32
 
 -- What an accumulator tells of itself: the value count and the two precisions, where it was started.
 abbrev pub countOf : Form → Accumulator → ℕ

@@ -43,7 +43,7 @@ accept x = record { answer = 0; after = x }
 
 -- ---- heads
 
--- A head of list form, and a dense one, with what is left of the list's numbers.
+-- A head of list form, and a dense one.
 abbrev pub listHead : (mask valueType count p s size len bytes waits : ℕ) → Accumulator
 listHead mask valueType count p s size len bytes waits =
     record {
@@ -59,8 +59,8 @@ listHead mask valueType count p s size len bytes waits =
       «pending_len» = waits;
     }
 
-abbrev pub denseHead : (mask valueType count p s size : ℕ) → Accumulator
-denseHead mask valueType count p s size =
+abbrev pub denseHead : (mask valueType count p s size bytes : ℕ) → Accumulator
+denseHead mask valueType count p s size bytes =
     record {
       form = Dense;
       allowed = mask;
@@ -70,7 +70,7 @@ denseHead mask valueType count p s size =
       «sparse_precision» = s;
       «sparse_size» = size;
       «sparse_len» = 0;
-      «sparse_bytes» = 0;
+      «sparse_bytes» = bytes;
       «pending_len» = 0;
     }
 
@@ -97,7 +97,7 @@ startAfter m st vs =
       waiting = [];
     })
     (record {
-      head = denseHead mask (st .valueType) (st .numValues) p s (st .hll .sparseSize);
+      head = denseHead mask (st .valueType) (st .numValues) p s (st .hll .sparseSize) 0;
       registers = withRegisters p (dataOf st) (m .registers);
       kept = [];
       waiting = [];
@@ -118,7 +118,7 @@ settle a m st l bytes =
       waiting = [];
     })
     (record {
-      head = denseHead (commonMask a st) (a .«value_type») (sumCount a st) p s 0;
+      head = denseHead (commonMask a st) (a .«value_type») (sumCount a st) p s 0 0;
       registers = withRegisters p (raisedBy p s (zeros p) l) (m .registers);
       kept = [];
       waiting = [];
@@ -171,7 +171,7 @@ sparseAfter a m st vs =
     })
     (listAfter a m st vs))
     (record {
-      head = denseHead (commonMask a st) (a .«value_type») (sumCount a st) p s 0;
+      head = denseHead (commonMask a st) (a .«value_type») (sumCount a st) p s 0 0;
       registers = withRegisters p (larger (raisedBy p s (zeros p) (keptOf a m ++ waitingOf a m)) (dataOf st)) (m .registers);
       kept = [];
       waiting = [];
@@ -192,14 +192,17 @@ raisedByState q st vs regs =
     cond (isEmpty (dataOf st)) (raisedLower (st .hll .precision) (st .hll .sparsePrecision) (st .hll .precision - q) regs vs)
     (larger regs (lowered (st .hll .precision - q) q (dataOf st)))
 
--- "A dense one takes any precision: p and s become the smaller of each; freed register bytes are zero, other bytes past 2^p untouched."
+-- "A dense one takes any precision: p and s become the smaller of each; freed register bytes are zero, other bytes past 2^p untouched." Its kept bytes, which
+-- question 1 does not ask for, stay as they are.
 unfoldable pub denseAfter : Accumulator → Mem → State → List ℕ → After
 denseAfter a m st vs =
     let p = a .precision in
     let q = min p (st .hll .precision) in
     let own = lowered (p - q) q (registersOf p (m .registers)) in
     record {
-      head = denseHead (commonMask a st) (a .«value_type») (sumCount a st) q (signedMin (a .«sparse_precision») (st .hll .sparsePrecision)) (a .«sparse_size»);
+      head =
+          denseHead (commonMask a st) (a .«value_type») (sumCount a st) q (signedMin (a .«sparse_precision») (st .hll .sparsePrecision)) (a .«sparse_size»)
+          (a .«sparse_bytes»);
       registers = withRegisters p (raisedByState q st vs own ++ replicate (2 ^ p - 2 ^ q) 0) (m .registers);
       kept = [];
       waiting = [];

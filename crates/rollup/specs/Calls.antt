@@ -1,8 +1,8 @@
--- Demand 3: one claim about a whole list of calls (document 01, "Lists of calls"). A run is made of the records that the contracts of `add` and
--- `write` cite; what it comes to is said of the states that were accepted alone.
+-- Demand 3: one claim about a whole list of calls (document 01, "Lists of calls"). Steps are made of the records that the contracts of `add` and
+-- `write` cite; what they come to is said of the states that were accepted alone.
 use mathlib.Core.Path.{_≡_}
-use mathlib.Core.List.{List, [], _∷_, _++_, map, List·Memᴰ}
-use mathlib.Core.Bool.{cond}
+use mathlib.Core.List.{List, [], _∷_, _++_, map, List·Memᴰ, List·Permᴰ}
+use mathlib.Core.Bool.{true, cond}
 use Prim.Native.Nat.{ℕ, _-_, _^_, _<_, min}
 use lib.Dec.{eqb}
 use lib.Bits.{bitAnd}
@@ -16,35 +16,51 @@ use Rattle.rollup.specs.declared.accumulator.Form.the-variants.{Unstarte
 use Rattle.rollup.specs.declared.accumulator.Accumulator.{Accumulator}
 use Rattle.rollup.specs.declared.adding.Added.{Added}
 use Rattle.rollup.specs.declared.writing.Written.{Written}
-use Rattle.rollup.specs.Accumulator.{Mem, keptOf, waitingOf, fresh}
+use Rattle.rollup.specs.Accumulator.{Mem, keptOf, waitingOf, fits, fresh, HeadWidths}
 use Rattle.rollup.specs.Header.{dataOf, isEmpty, maskOf}
 use Rattle.rollup.specs.Adding.{listedIn, signedMin, addOutcome, AddPost}
 use Rattle.rollup.specs.Writing.{stateForm, writeOutcome, WritePost}
 
--- ---- runs
+-- ---- lists of calls
 
--- "The calls are adding and writing": a state's bytes and the answer; an output as it was lent, and the answer.
+-- "The calls are adding and writing": how many cells of `scratch` the call is lent, the state's bytes or the output as it was lent, and the answer. Besides,
+-- the roll-up may be moved to other memory between two calls, as a caller does who answers a 17.
 pub data Call : Type 0 where
-  added : List ℕ → ℕ → Call
-  wrote : List ℕ → ℕ → Call
+  added : ℕ → List ℕ → ℕ → Call
+  wrote : ℕ → List ℕ → ℕ → Call
+  moved : Call
 
--- "In any number and order. The first gets a fresh head and lent memory of any lengths and contents, each later one both as the last left them."
--- The latest call stands first. `room` is the length of `scratch`, which no call changes, and `first` is the memory that the first call gets. `AddPost`
--- and `WritePost` are what the functions promise, so whatever a call leaves free is arbitrary between the calls.
-pub data Run (room : ℕ) (first : Mem) : List Call → Accumulator → Mem → Type 0 where
-  begun : Run room first [] fresh first
-  adding : {calls : List Call} {a : Accumulator} {m : Mem} (bytes : List ℕ) (r : Added) (n : Mem)
-      → Run room first calls a m → AddPost a m room bytes r n → Run room first (added bytes (r .answer) ∷ calls) (r .head) n
-  writing : {calls : List Call} {a : Accumulator} {m : Mem} (out : List ℕ) (r : Written) (n : Mem) (after : List ℕ)
-      → Run room first calls a m → WritePost a m room out r n after → Run room first (wrote out (r .answer) ∷ calls) a n
+-- The same head with other lent memory, of any lengths, which the head fits: "kept" up to its count is as it was, "waiting" in some order and, if dense, the
+-- registers. Whatever else the memory holds is its own.
+pub record Moved (a : Accumulator) (m n : Mem) : Type 0 where
+  pub kept : keptOf a n ≡ keptOf a m
+  pub waiting : List·Permᴰ (waitingOf a n) (waitingOf a m)
+  pub registers : a .form ≡ Dense → registersOf (a .precision) (n .registers) ≡ registersOf (a .precision) (m .registers)
+  pub fit : fits a n ≡ true
+
+-- Calls "in any number and order", from any head and memory on, "each later one" gets "both as the last left them". The latest call stands first. `AddPost` and
+-- `WritePost` are what the functions promise, so whatever a call leaves free is arbitrary between the calls.
+pub data Steps : Accumulator → Mem → List Call → Accumulator → Mem → Type 0 where
+  begun : {a : Accumulator} {m : Mem} → Steps a m [] a m
+  adding : {a₀ : Accumulator} {m₀ : Mem} {calls : List Call} {a : Accumulator} {m : Mem} (room : ℕ) (bytes : List ℕ) (r : Added) (n : Mem)
+      → Steps a₀ m₀ calls a m → AddPost a m room bytes r n → Steps a₀ m₀ (added room bytes (r .answer) ∷ calls) (r .head) n
+  writing : {a₀ : Accumulator} {m₀ : Mem} {calls : List Call} {a : Accumulator} {m : Mem} (room : ℕ) (out : List ℕ) (r : Written) (n : Mem) (after : List ℕ)
+      → Steps a₀ m₀ calls a m → WritePost a m room out r n after → Steps a₀ m₀ (wrote room out (r .answer) ∷ calls) a n
+  moving : {a₀ : Accumulator} {m₀ : Mem} {calls : List Call} {a : Accumulator} {m : Mem} (n : Mem) → Steps a₀ m₀ calls a m → Moved a m n
+      → Steps a₀ m₀ (moved ∷ calls) a n
+
+-- "The first gets a fresh head and lent memory of any lengths and contents."
+abbrev pub Run : Mem → List Call → Accumulator → Mem → Type 0
+Run first calls a m = Steps fresh first calls a m
 
 -- ---- what the accepted states come to
 
 -- "The definition is fed the added states and which of them answered 0, nothing else; those are the accepted ones."
 unfoldable pub accepted : List Call → List (List ℕ)
 accepted [] = []
-accepted (added bytes n ∷ calls) = cond (eqb n 0) (bytes ∷ accepted calls) (accepted calls)
-accepted (wrote out n ∷ calls) = accepted calls
+accepted (added room bytes n ∷ calls) = cond (eqb n 0) (bytes ∷ accepted calls) (accepted calls)
+accepted (wrote room out n ∷ calls) = accepted calls
+accepted (moved ∷ calls) = accepted calls
 
 abbrev pub valueOr : {A : Type 0} → A → Read A → A
 valueOr x (got y rest) = y
@@ -103,17 +119,18 @@ rollupRegisters Dense a m = registersOf (a .precision) (m .registers)
 -- ---- the claim
 
 -- "Every call's answer, writing's too, is the one that the questions above give for the head, lent memory, state bytes and output of that call."
-unfoldable pub Answered : {room : ℕ} {first : Mem} {calls : List Call} {a : Accumulator} {m : Mem} → Run room first calls a m → Type 0
+unfoldable pub Answered : {a₀ : Accumulator} {m₀ : Mem} {calls : List Call} {a : Accumulator} {m : Mem} → Steps a₀ m₀ calls a m → Type 0
 Answered begun = Unit
-Answered {room} (adding {a = a} {m = m} bytes r n run post) = Answered run × (r .answer ≡ addOutcome a m room bytes .answer)
-Answered {room} (writing {a = a} {m = m} out r n after run post) = Answered run × (r .answer ≡ writeOutcome a m room (length out) .answer)
+Answered (adding {a = a} {m = m} room bytes r n steps post) = Answered steps × (r .answer ≡ addOutcome a m room bytes .answer)
+Answered (writing {a = a} {m = m} room out r n after steps post) = Answered steps × (r .answer ≡ writeOutcome a m room (length out) .answer)
+Answered (moving n steps post) = Answered steps
 
 -- The premise: no value listed in an accepted state has rank 0.
 unfoldable pub NoZeroRank : List State → Type 0
 NoZeroRank sts =
     (st : State) → List·Memᴰ st sts → (v : ℕ) → List·Memᴰ v (valuesIn st) → 0 < rank (st .hll .precision) (st .hll .sparsePrecision) v
 
-pub record Agrees (room : ℕ) (first : Mem) (calls : List Call) (a : Accumulator) (m : Mem) (run : Run room first calls a m) : Type 0 where
+pub record Agrees (first : Mem) (calls : List Call) (a : Accumulator) (m : Mem) (run : Run first calls a m) : Type 0 where
   pub answers : Answered run
   pub none : accepted calls ≡ [] → a ≡ fresh
   pub precision : a .precision ≡ smallestPrecision (states calls)
@@ -121,17 +138,24 @@ pub record Agrees (room : ℕ) (first : Mem) (calls : List Call) (a : Accumulato
   pub mask : a .allowed ≡ commonBits (states calls)
   pub registers : rollupRegisters (a .form) a m ≡ largestRegisters (states calls)
 
+-- Calls that do not move the roll-up.
+unfoldable pub Unmoved : List Call → Type 0
+Unmoved [] = Unit
+Unmoved (added room bytes n ∷ calls) = Unmoved calls
+Unmoved (wrote room out n ∷ calls) = Unmoved calls
+Unmoved (moved ∷ calls) = ⊥
+
+-- Demand 3 as document 01 words it is the case of `Unmoved` calls that are all lent one `scratch`: "each call is given the head and the lent memory as the last
+-- one left them".
 unfoldable pub DemandThree : Type 0
-DemandThree =
-    (room : ℕ) (first : Mem) (calls : List Call) (a : Accumulator) (m : Mem) (run : Run room first calls a m) → NoZeroRank (states calls)
-    → Agrees room first calls a m run
+DemandThree = (first : Mem) (calls : List Call) (a : Accumulator) (m : Mem) (run : Run first calls a m) → NoZeroRank (states calls) → Agrees first calls a m run
 
 -- ---- its consequence
 
--- Two lists of calls that accepted the same set of states, in whatever order and however often.
+-- Two lists of calls that accepted the same set of states, in whatever order and however often. A state is what its bytes say, however they spell it.
 pub record SameStates (c d : List Call) : Type 0 where
-  pub there : (bytes : List ℕ) → List·Memᴰ bytes (accepted c) → List·Memᴰ bytes (accepted d)
-  pub back : (bytes : List ℕ) → List·Memᴰ bytes (accepted d) → List·Memᴰ bytes (accepted c)
+  pub there : (st : State) → List·Memᴰ st (states c) → List·Memᴰ st (states d)
+  pub back : (st : State) → List·Memᴰ st (states d) → List·Memᴰ st (states c)
 
 -- Two roll-ups that are alike in what is compared.
 pub record Alike (a : Accumulator) (m : Mem) (b : Accumulator) (n : Mem) : Type 0 where
@@ -140,11 +164,10 @@ pub record Alike (a : Accumulator) (m : Mem) (b : Accumulator) (n : Mem) : Type 
   pub mask : a .allowed ≡ b .allowed
   pub registers : rollupRegisters (a .form) a m ≡ rollupRegisters (b .form) b n
 
--- Whatever the order, the repeats, the refusals and the writes between, and whatever memory was lent.
+-- Whatever the order, the repeats, the refusals, the writes and the moves between, and whatever memory was lent.
 unfoldable pub OrderFree : Type 0
 OrderFree =
-    (room room′ : ℕ) (first first′ : Mem) (c d : List Call) (a b : Accumulator) (m n : Mem) → Run room first c a m → Run room′ first′ d b n
-    → NoZeroRank (states c) → SameStates c d
+    (first first′ : Mem) (c d : List Call) (a b : Accumulator) (m n : Mem) → Run first c a m → Run first′ d b n → NoZeroRank (states c) → SameStates c d
     → Alike a m b n
 
 -- ---- what is written
@@ -156,15 +179,14 @@ pub record WrittenIs (a : Accumulator) (m : Mem) (bytes : List ℕ) : Type 0 whe
   pub sparse-precision : stateIn bytes .hll .sparsePrecision ≡ a .«sparse_precision»
   pub registers : registersIn (stateIn bytes) ≡ rollupRegisters (a .form) a m
 
--- After any run, what a write that answered 0 left at the front of its output is such bytes.
+-- What a write that answered 0 left at the front of its output is such bytes, whatever led to the head.
 unfoldable pub WrittenReads : Type 0
 WrittenReads =
-    (room : ℕ) (first : Mem) (calls : List Call) (a : Accumulator) (m : Mem) → Run room first calls a m → (out : List ℕ) (r : Written) (n : Mem)
-    (after : List ℕ) → WritePost a m room out r n after → r .answer ≡ 0 → WrittenIs a m (take (r .len) after)
+    (a : Accumulator) (m : Mem) (room : ℕ) (out : List ℕ) (r : Written) (n : Mem) (after : List ℕ) → HeadWidths a → WritePost a m room out r n after
+    → r .answer ≡ 0 → WrittenIs a m (take (r .len) after)
 
 -- And no proper prefix of it is accepted, by any roll-up: a state that was cut off on its way is refused, whatever head and memory it meets.
 unfoldable pub NoPrefixAccepted : Type 0
 NoPrefixAccepted =
-    (room : ℕ) (first : Mem) (calls : List Call) (a : Accumulator) (m : Mem) → Run room first calls a m → (out : List ℕ) (r : Written) (n : Mem)
-    (after : List ℕ) → WritePost a m room out r n after → r .answer ≡ 0 → (k : ℕ) → k < r .len → (b : Accumulator) (l : Mem) (room′ : ℕ)
-    → addOutcome b l room′ (take k after) .answer ≡ 0 → ⊥
+    (a : Accumulator) (m : Mem) (room : ℕ) (out : List ℕ) (r : Written) (n : Mem) (after : List ℕ) → HeadWidths a → WritePost a m room out r n after
+    → r .answer ≡ 0 → (k : ℕ) → k < r .len → (b : Accumulator) (l : Mem) (room′ : ℕ) → addOutcome b l room′ (take k after) .answer ≡ 0 → ⊥

@@ -30,7 +30,7 @@ listed h size len bytes wait =
     listHead (h .allowed) (h .«value_type») (h .«num_values») (h .precision) (h .«sparse_precision») size len bytes wait
 
 abbrev pub densed : Accumulator → Accumulator
-densed h = denseHead (h .allowed) (h .«value_type») (h .«num_values») (h .precision) (h .«sparse_precision») 0
+densed h = denseHead (h .allowed) (h .«value_type») (h .«num_values») (h .precision) (h .«sparse_precision») 0 0
 
 -- ---- after a merge
 

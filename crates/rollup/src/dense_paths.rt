@@ -41,7 +41,7 @@ fn first_list(f: Fields, len: usize, list_bytes: usize) -> Accumulator
 
 // And one with data.
 fn first_dense(f: Fields) -> Accumulator
-    ensures { λ r. ⌜ r ≡ denseHead (maskOf (f .«value_type»)) (f .«value_type») (f .«num_values») (f .hll .precision) (f .hll .«sparse_precision») (f .hll .«sparse_size») ⌝ }
+    ensures { λ r. ⌜ r ≡ denseHead (maskOf (f .«value_type»)) (f .«value_type») (f .«num_values») (f .hll .precision) (f .hll .«sparse_precision») (f .hll .«sparse_size») 0 ⌝ }
 {
     let h = f.hll;
     let mask = header::allowed_types(f.value_type);
@@ -143,9 +143,10 @@ fn raise_by_state(registers: &mut [u8], q: u32, f: Fields, bytes: &[u8], values:
     raise_by_data(registers, q, data, h.precision);
 }
 
-// The head after a state: "masks intersect; value counts add as signed 64-bit numbers that wrap", and the smaller of each precision.
+// The head after a state: "masks intersect; value counts add as signed 64-bit numbers that wrap", and the smaller of each precision. Its kept bytes,
+// which question 1 does not ask for, stay as they are.
 fn dense_head(a: Accumulator, f: Fields, q: u32) -> Accumulator
-    ensures { λ r. ⌜ r ≡ denseHead (bitAnd (a .allowed) (maskOf (f .«value_type»))) (a .«value_type») ((a .«num_values» + f .«num_values») % 2 ^ 64) q (signedMin (a .«sparse_precision») (f .hll .«sparse_precision»)) (a .«sparse_size») ⌝ }
+    ensures { λ r. ⌜ r ≡ denseHead (bitAnd (a .allowed) (maskOf (f .«value_type»))) (a .«value_type») ((a .«num_values» + f .«num_values») % 2 ^ 64) q (signedMin (a .«sparse_precision») (f .hll .«sparse_precision»)) (a .«sparse_size») (a .«sparse_bytes») ⌝ }
 {
     let h = f.hll;
     let mask = header::allowed_types(f.value_type);
@@ -161,7 +162,7 @@ fn dense_head(a: Accumulator, f: Fields, q: u32) -> Accumulator
         sparse_precision: s,
         sparse_size: a.sparse_size,
         sparse_len: 0,
-        sparse_bytes: 0,
+        sparse_bytes: a.sparse_bytes,
         pending_len: 0,
     }
 }
