@@ -8,7 +8,8 @@
  * its pointer is not const. An empty slice may have any pointer.
  *
  * An answer is 0, or the number of the first question that was answered with no (README.md has a table of them); then the head, the registers and the
- * values kept and waiting are as before. 1 is also the answer for a head with fewer than ten numbers, an unknown form, or a number out of range.
+ * values kept and waiting are as before. 1 is also the answer for a head with fewer than ten numbers, an unknown form, or a number out of range. Numbers from
+ * 100 on are this library's own.
  */
 #ifndef FILMOED_H
 #define FILMOED_H
@@ -35,6 +36,9 @@ enum {
     FILMOED_HEAD           /* how many numbers a head has */
 };
 
+/* The answer to a fold whose ends do not fit. */
+enum { FILMOED_BAD_ENDS = 100 };
+
 /* A head to which nothing was added. */
 uint8_t filmoed_fresh(uint64_t *head, size_t head_len);
 
@@ -42,8 +46,10 @@ uint8_t filmoed_fresh(uint64_t *head, size_t head_len);
 uint8_t filmoed_add(uint64_t *head, size_t head_len, uint8_t *registers, size_t registers_len, uint32_t *sparse, size_t sparse_len, uint32_t *pending,
                     size_t pending_len, uint32_t *scratch, size_t scratch_len, const uint8_t *state, size_t state_len);
 
-/* Adds many states that stand one behind the other: ends[i] is where state i ends. The answer to each goes into answers[i]; as many are added as there are
- * ends and answers. The function's own answer is 1 where the head is none or does not fit its memory, and then nothing is added; else 0. */
+/* Adds many states that stand one behind the other: ends[i] is where state i ends. The answer to each goes into answers[i]: READ THEM, a state that was refused
+ * is told there alone. Cells past the states are untouched.
+ * The function's own answer is 0, or that of a fold that is refused as a whole, and then nothing is changed, nor any answer: FILMOED_BAD_ENDS where an end is
+ * before the last one or past the states, or there are fewer answers than ends; else 1 where the head is none or does not fit its memory. */
 uint8_t filmoed_fold(uint64_t *head, size_t head_len, uint8_t *registers, size_t registers_len, uint32_t *sparse, size_t sparse_len, uint32_t *pending,
                      size_t pending_len, uint32_t *scratch, size_t scratch_len, const uint8_t *states, size_t states_len, const uint64_t *ends,
                      size_t ends_len, uint8_t *answers, size_t answers_len);

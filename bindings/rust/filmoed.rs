@@ -22,12 +22,31 @@ pub mod c {
     }
 }
 
-/// The number of the first question that was answered with no.
+/// The number of the first question that was answered with no, or [`BAD_ENDS`].
 #[derive(Debug, Clone, Copy, PartialEq, Eq)]
 pub struct Refused(pub u8);
 
+/// A fold of which an end is before the last one or past the states. Numbers from 100 on are the library's own.
+pub const BAD_ENDS: Refused = Refused(100);
+
 fn answered(answer: u8) -> Result<(), Refused> {
     if answer == 0 { Ok(()) } else { Err(Refused(answer)) }
+}
+
+/// The answer to each state of a fold, in order.
+#[must_use = "a state that was refused is told here alone"]
+#[derive(Debug, Clone, PartialEq, Eq)]
+pub struct Answers(Vec<u8>);
+
+impl Answers {
+    /// Whether each state was added; or the first that was not, counted from 0, and why.
+    pub fn all(&self) -> Result<(), (usize, Refused)> {
+        self.iter().enumerate().try_for_each(|(i, answer)| answer.map_err(|refused| (i, refused)))
+    }
+
+    pub fn iter(&self) -> impl Iterator<Item = Result<(), Refused>> + '_ {
+        self.0.iter().map(|&answer| answered(answer))
+    }
 }
 
 /// A roll-up with memory of its own.
@@ -60,8 +79,9 @@ impl RollUp {
         })
     }
 
-    /// Adds many states that stand one behind the other; `ends` says where each one ends. An answer for each of them.
-    pub fn fold(&mut self, states: &[u8], ends: &[u64]) -> Result<Vec<u8>, Refused> {
+    /// Adds many states that stand one behind the other; `ends` says where each one ends. There is an answer for each of them, and a refused one does not keep the
+    /// others out. The fold as a whole is refused where the ends do not fit ([`BAD_ENDS`]), and then nothing is changed.
+    pub fn fold(&mut self, states: &[u8], ends: &[u64]) -> Result<Answers, Refused> {
         let mut answers = vec![0; ends.len()];
         answered(unsafe {
             c::filmoed_fold(
@@ -70,7 +90,7 @@ impl RollUp {
                 ends.len(), answers.as_mut_ptr(), answers.len(),
             )
         })?;
-        Ok(answers)
+        Ok(Answers(answers))
     }
 
     /// Writes the roll-up as a state into `out`, and gives back the part that was written.

@@ -64,4 +64,14 @@ pub fn run(counts: &mut Counts) {
         }
         assert_eq!(counts.add, expected, "the answers to\n{script}");
     }
+    // The ends of a fold: past the 23 bytes of the state, before the last one, and more than there are cells for answers; nothing is changed, at any head.
+    let ends = [(vec![36], 1), (vec![24], 1), (vec![u64::MAX], 1), (vec![23, 22], 2), (vec![1, 0, 23], 3), (vec![u64::MAX, 0, 23], 3), (vec![0, 23], 1)];
+    let bad = ends.map(|(ends, cells)| Call::Fold(unhex(a), ends, cells));
+    let expected = counts.folds[2] + 2 * bad.len() as u64;
+    let calls = [bad.to_vec(), vec![Call::Fold(unhex(a), vec![23, 23], 3)], bad.to_vec()].concat();
+    let script = Script { registers: 1027, kept: 60, waiting: 60, working: 60, set: None, calls };
+    if let Err(e) = run_guarded(&script, counts) {
+        crate::found(&script, "the readings", e);
+    }
+    assert_eq!(counts.folds[2], expected, "the answers to\n{script}");
 }

@@ -102,8 +102,8 @@ pub struct Counts {
     pub paths: [u64; 26],
     /// Written: a list, a list with values waiting, registers.
     pub written: [u64; 3],
-    /// Calls of `filmoed_fold`, and those that it answered with 1.
-    pub folds: [u64; 2],
+    /// Calls of `filmoed_fold`, and those that it answered with 1 and with 100.
+    pub folds: [u64; 3],
     /// Calls with a row that is no head.
     pub no_head: u64,
     /// States that were given to `add_bytes` of the original too.
@@ -113,7 +113,7 @@ pub struct Counts {
 
 impl Counts {
     pub fn new() -> Counts {
-        Counts { add: [0; 24], fold: [0; 24], write: [0; 24], paths: [0; 26], written: [0; 3], folds: [0; 2], no_head: 0, add_bytes: 0, scripts: 0 }
+        Counts { add: [0; 24], fold: [0; 24], write: [0; 24], paths: [0; 26], written: [0; 3], folds: [0; 3], no_head: 0, add_bytes: 0, scripts: 0 }
     }
 
     /// States added and roll-ups written.
@@ -134,7 +134,7 @@ impl Counts {
         for (form, n) in ["a list", "a list with values waiting", "registers"].iter().zip(&self.written) {
             println!("{n:>10} written: {form}");
         }
-        println!("{:>10} folds, {} of them answered with 1", self.folds[0], self.folds[1]);
+        println!("{:>10} folds, {} of them answered with 1 and {} with 100", self.folds[0], self.folds[1], self.folds[2]);
         println!("{:>10} calls with a row that is no head", self.no_head);
         println!("{:>10} states given to the original's add_bytes too", self.add_bytes);
     }
@@ -195,17 +195,16 @@ fn path(before: &Head, after: &Head, f: &Fields, differs: bool) -> usize {
     }
 }
 
-/// The states that a fold adds: document of `filmoed_fold`.
-fn splits<'a>(states: &'a [u8], ends: &[u64]) -> Vec<&'a [u8]> {
-    let mut start = 0u64;
-    let len = states.len() as u64;
-    ends.iter()
-        .map(|end| {
-            let (from, to) = (start.min(len), (*end).min(len));
-            start = *end;
-            if to <= from { &states[..0] } else { &states[from as usize..to as usize] }
-        })
-        .collect()
+/// The states that a fold adds; none where its ends do not fit, or there are fewer cells than ends.
+fn splits<'a>(states: &'a [u8], ends: &[u64], cells: usize) -> Option<Vec<&'a [u8]>> {
+    let mut start = 0;
+    let split = ends.iter().map(|end| {
+        let end = usize::try_from(*end).ok()?;
+        let state = states.get(start..end)?;
+        start = end;
+        Some(state)
+    });
+    split.collect::<Option<Vec<_>>>().filter(|split| split.len() <= cells)
 }
 
 /// Both sides while a script runs.
@@ -340,21 +339,25 @@ impl Both<'_> {
             }
             Call::Fold(states, ends, cells) => {
                 let mut answers = Lent::new(*cells, BYTE);
-                let fits = self.odd.is_none() && self.model.fits();
-                let untouched = if fits { None } else { Some(self.side.clone()) };
+                let split = splits(states, ends, *cells);
+                let whole = match split {
+                    None => 100,
+                    Some(_) => u8::from(self.odd.is_some() || !self.model.fits()),
+                };
+                let untouched = if whole == 0 { None } else { Some(self.side.clone()) };
                 let (given, given_ends) = (states.clone(), ends.clone());
                 let answer = self.side.fold(&given, &given_ends, answers.get_mut());
                 same("the states' bytes", &given, states)?;
                 same("the ends", &given_ends, ends)?;
-                same("answer of a fold", answer, u8::from(!fits))?;
+                same("answer of a fold", answer, whole)?;
                 self.counts.folds[0] += 1;
+                self.counts.folds[1] += u64::from(whole == 1);
+                self.counts.folds[2] += u64::from(whole == 100);
                 let mut expected = vec![BYTE; *cells];
-                if fits {
-                    for (cell, state) in expected.iter_mut().zip(splits(states, ends)) {
+                if whole == 0 {
+                    for (cell, state) in expected.iter_mut().zip(split.expect("ends that fit")) {
                         *cell = self.expect(state, true)?;
                     }
-                } else {
-                    self.counts.folds[1] += 1;
                 }
                 same("answers of a fold", answers.get(), &expected[..])?;
                 if !answers.guarded() {
@@ -468,7 +471,7 @@ pub fn smallest(script: &Script) -> (Script, String) {
         for i in 0..best.calls.len() {
             if let Call::Fold(states, ends, cells) = best.calls[i].clone() {
                 let mut candidate = best.clone();
-                let adds = splits(&states, &ends).iter().take(cells).map(|s| Call::Add(s.to_vec())).collect::<Vec<_>>();
+                let adds = splits(&states, &ends, cells).unwrap_or_default().iter().map(|s| Call::Add(s.to_vec())).collect::<Vec<_>>();
                 candidate.calls.splice(i..=i, adds);
                 if accept(candidate, &mut best) {
                     break;

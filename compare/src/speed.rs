@@ -2,7 +2,7 @@
 //! medians of many runs that take turns.
 
 use crate::cases::{marked, Chance, Pair};
-use crate::gen::{dense, list};
+use crate::gen::{dense, list, neither};
 use crate::lent::Side;
 use original::{Accumulator, Fields};
 use std::hint::black_box;
@@ -264,6 +264,13 @@ fn main_cases(chance: &mut Chance) -> Vec<Case> {
     }
     let large = inserted(chance, 15);
     all.push(Case { name: format!("16 values into a list of {}, inserted", large.name), ..large });
+    // The list of a first state is kept as it is, so it may have one value twice; a fold then knows less of it.
+    let name = "states without list or data at a list of 24,000 values, one of them twice";
+    all.push(case(name, 15, SETS, || {
+        let mut kept = values(chance, pair, 24_000);
+        kept.insert(1, kept[0]);
+        set(vec![list(pair, &kept).encode()], vec![neither(pair).encode(); 1000])
+    }));
     let name = "lists of 3,000 values merged into a list of 4,000 and more";
     all.push(case(name, 15, SETS, || set(list_states(chance, pair, 1, 4000, 4000), list_states(chance, pair, 4, 3000, 3000))));
     let name = "dense of p = 15 into dense of p = 12";

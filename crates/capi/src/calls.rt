@@ -10,7 +10,6 @@ use crate::heads;
 use crate::heads::Head;
 use rollup::accumulator::Accumulator;
 use rollup::fitting;
-use rollup::judging;
 use rollup::writing;
 
 // Puts a fresh head into the row; 1 where it has no ten cells.
@@ -78,7 +77,11 @@ pub extern "C" fn filmoed_write(
     r.answer
 }
 
-// Adds many states: `states` has them one behind the other, `ends` where each one ends, and `answers` a cell for each answer. Question 1 is asked once.
+// The answer to a fold whose ends do not fit: one is before the last one or past the bytes, or has no cell for its answer. The papers' numbers end before 100.
+const BAD_ENDS: u8 = 100;
+
+// Adds many states: `states` has them one behind the other, `ends` where each one ends, and `answers` a cell for each answer. The arguments are judged first;
+// question 1 is asked once.
 #[no_mangle]
 pub extern "C" fn filmoed_fold(
     head: &mut [u64],
@@ -92,6 +95,9 @@ pub extern "C" fn filmoed_fold(
 ) -> u8
     ensures { λ r. ⌜ FoldRowPost (now (head .entry)) (mem (now (registers .entry)) (now (sparse .entry)) (now (pending .entry))) (length (now (scratch .entry))) (now (states .entry)) (now (ends .entry)) (now (answers .entry)) r (now (head .exit)) (mem (now (registers .exit)) (now (sparse .exit)) (now (pending .exit))) (now (answers .exit)) ⌝ }
 {
+    if !folding::fold_fits(states, ends, &answers[..]) {
+        return BAD_ENDS;
+    }
     let h = heads::read_head(&head[..]);
     let Head::Is(a) = h else {
         return 1;
@@ -99,7 +105,6 @@ pub extern "C" fn filmoed_fold(
     if !fitting::fits(a, &registers[..], &sparse[..], &pending[..]) {
         return 1;
     }
-    let k = judging::least(ends.len(), answers.len());
     let r = folding::fold_states(
         a,
         registers,
@@ -107,7 +112,7 @@ pub extern "C" fn filmoed_fold(
         pending,
         scratch,
         states,
-        &ends[..k],
+        ends,
         answers,
     );
     heads::put_head(head, r);

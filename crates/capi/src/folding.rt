@@ -1,31 +1,48 @@
 // Many states, added one after the other: question 1 is asked once, and then each state goes to the form of `add` that need not scan. One state is a fold of one: with a
 // single call of `add_knowing` in the library LLVM puts its code into the loop, and the head stays where it is from turn to turn.
-ghost use Prim.Native.Nat.{_-_};
 ghost use mathlib.Core.Path.{_≡_};
+ghost use mathlib.Core.Bool.{_&&_};
+ghost use lib.Dec.{leb};
 ghost use lib.ListN.{length};
 ghost use Rattle.rollup.specs.Accumulator.{mem};
 ghost use Rattle.rollup.specs.Adding.{AddPost};
-ghost use Rattle.capi.specs.Folds.{between, FoldPre, LoopPost};
+ghost use Rattle.capi.specs.Folds.{endsFit, foldFits, FoldPre, FoldedPost};
 use rollup::accumulator::Accumulator;
 use rollup::adding;
 use rollup::adding::Added;
 use rollup::fitting;
-use rollup::knowing;
 
-// The bytes from one end to the next, as far as there are any.
-fn between(bytes: &[u8], start: usize, end: usize) -> &[u8]
-    ensures { λ r. ⌜ now r ≡ between (now (bytes .entry)) start end ⌝ }
+// Whether it was so before and `end` is not before `start`, with no branch in a loop.
+fn goes_on(before: bool, start: u64, end: u64) -> bool
+    ensures { λ r. ⌜ r ≡ (before && leb start end) ⌝ }
 {
-    if end <= start {
-        return &bytes[..0];
+    if before { start <= end } else { false }
+}
+
+// Whether the ends are of states in so many bytes. The loop has no way out, so that it has no branch: a fold of right ends pays little.
+fn ends_fit(ends: &[u64], size: u64) -> bool
+    ensures { λ r. ⌜ r ≡ endsFit size 0 (now (ends .entry)) ⌝ }
+{
+    let mut all = true;
+    let mut start: u64 = 0;
+    let mut i: usize = 0;
+    while i < ends.len() {
+        let end = ends[i];
+        all = goes_on(all, start, end);
+        start = end;
+        i += 1;
     }
-    if bytes.len() <= start {
-        return &bytes[..0];
+    goes_on(all, start, size)
+}
+
+// Judges a fold's own arguments, so that the loop over the states asks nothing more of them.
+pub(crate) fn fold_fits(bytes: &[u8], ends: &[u64], answers: &[u8]) -> bool
+    ensures { λ r. ⌜ r ≡ foldFits (now (bytes .entry)) (now (ends .entry)) (now (answers .entry)) ⌝ }
+{
+    if answers.len() < ends.len() {
+        return false;
     }
-    if bytes.len() < end {
-        return &bytes[start..];
-    }
-    &bytes[start..end]
+    ends_fit(ends, bytes.len() as u64)
 }
 
 // Adds the states between the ends, and puts each answer into its cell.
@@ -39,20 +56,26 @@ pub(crate) fn fold_states(
     ends: &[u64],
     answers: &mut [u8],
 ) -> Accumulator
-    requires { ⌜ FoldPre a (mem (now registers) (now sparse) (now pending)) (now ends) (now answers) ⌝ }
-    ensures { λ r. ⌜ LoopPost a (mem (now (registers .entry)) (now (sparse .entry)) (now (pending .entry))) (length (now (scratch .entry))) (now (bytes .entry)) (now (ends .entry)) (now (answers .entry)) r (mem (now (registers .exit)) (now (sparse .exit)) (now (pending .exit))) (now (answers .exit)) ⌝ }
+    requires { ⌜ FoldPre a (mem (now registers) (now sparse) (now pending)) (now bytes) (now ends) (now answers) ⌝ }
+    ensures { λ r. ⌜ FoldedPost a (mem (now (registers .entry)) (now (sparse .entry)) (now (pending .entry))) (length (now (scratch .entry))) (now (bytes .entry)) (now (ends .entry)) (now (answers .entry)) r (mem (now (registers .exit)) (now (sparse .exit)) (now (pending .exit))) (now (answers .exit)) ⌝ }
 {
     let mut head = a;
-    let mut known = false;
+    let mut distinct = false;
     let mut start: usize = 0;
     let mut i: usize = 0;
     while i < ends.len() {
         let end = ends[i] as usize;
-        let state = between(bytes, start, end);
-        let distinct = knowing::look(head, &sparse[..], state.len(), known);
-        let r = adding::add_knowing(head, registers, sparse, pending, scratch, state, distinct);
-        known = knowing::still_distinct(head, r.head, distinct);
+        let r = adding::add_knowing(
+            head,
+            registers,
+            sparse,
+            pending,
+            scratch,
+            &bytes[start..end],
+            distinct,
+        );
         head = r.head;
+        distinct = r.distinct;
         answers[i] = r.answer;
         start = end;
         i += 1;

@@ -1,155 +1,108 @@
 -- What is known of the list that is kept is so after each call: a merge leaves one that a merge can leave, and nothing else changes it but the first state and
 -- data.
-use Prim.Native.Nat.{ℕ, _+_, _<_, _≤_}
+use Prim.Native.Nat.{ℕ, _+_, _≤_}
 use mathlib.Core.Path.{_≡_, refl, sym, ap, ap₂, _∙_, subst}
-use mathlib.Core.List.{List, _++_}
+use mathlib.Core.List.{List, [], _++_}
 use mathlib.Core.Bool.{Bool, true, false, cond, _&&_, not}
-use mathlib.Core.Logic.{⊎-elim}
 use native.Mathlib.Omega.{arith}
-use lib.Dec.{ltb, leb, eqb}
+use lib.Dec.{ltb, eqb}
 use lib.ListN.{length, take}
-use borrow.Author.Tests.{le-leb, lt-leb, eq-eqb, ne-eqb, eqb-true, eqb-false}
+use lib.Seq.{length-take-le}
+use borrow.Author.Tests.{eq-eqb, ne-eqb, eqb-true, eqb-false}
 use Rattle.wire.specs.State.{State}
-use Rattle.wire.proofs.BoolLaws.{both-true, never}
+use Rattle.wire.proofs.BoolLaws.{never}
 use Rattle.lists.specs.Lists.{merged, distinctSlots}
+use Rattle.lists.proofs.DecodingLaws.{accepted}
 use Rattle.lists.proofs.MergeLaws.{merged-distinct}
 use Rattle.rollup.specs.declared.accumulator.Form.{Form}
 use Rattle.rollup.specs.declared.accumulator.Form.the-variants.{Unstarted, Sparse, Dense}
 use Rattle.rollup.specs.declared.accumulator.Accumulator.{Accumulator}
-use Rattle.rollup.specs.declared.adding.Added.{Added}
-use Rattle.rollup.specs.Accumulator.{Mem, keptOf, waitingOf, limit, fits}
+use Rattle.rollup.specs.Accumulator.{Mem, keptOf, waitingOf, limit}
 use Rattle.rollup.specs.Header.{dataOf, listOf, isEmpty}
-use Rattle.rollup.specs.Adding.{After, unchanged, settle, waits, listAfter, sparseAfter, acceptedAfter, Shows, AddPost}
-use Rattle.rollup.specs.Calls.{stateIn, valuesIn}
+use Rattle.rollup.specs.Adding.{After, settle, waits, listAfter, sparseAfter, acceptedAfter, Ready, Shows}
 use Rattle.rollup.specs.SparsePaths.{KnownDistinct}
-use Rattle.rollup.specs.Knowing.{LookPre, keptDistinct, lookedAt, listStill, stillDistinct}
-use Rattle.rollup.proofs.FitLaws.{fit-sparse}
+use Rattle.rollup.specs.Accepting.{AcceptPre, stillDistinct}
 use Rattle.rollup.proofs.WaysLaws.{settle-ways, list-ways, sparse-ways}
-use Rattle.rollup.proofs.ViewLaws.{IsRefused, IsAccepted, add-view}
-
--- A list that was looked at.
-kept-known : (f : Form) (a : Accumulator) (sparse : List ℕ) → KnownDistinct (keptDistinct f a sparse) (a .precision) (a .«sparse_precision») (take (a .«sparse_len») sparse)
-kept-known Unstarted a sparse e = never e
-kept-known Sparse a sparse e = e
-kept-known Dense a sparse e = never e
-
--- A head that fits has a list that can be looked at.
-pub look-fits : (a : Accumulator) (m : Mem) → fits a m ≡ true → LookPre a (m .sparse)
-look-fits a m e f = let x = fit-sparse a m e f in record { pair = x .pair; inside = x .kept-in; order = x .order; allowed = x .kept-valid }
 
 -- ---- the code's questions
 
-module _ (a : Accumulator) (sparse : List ℕ) where
-  pub by-kept-form : (f g : Form) → f ≡ g → (r : Bool) → r ≡ keptDistinct g a sparse → r ≡ keptDistinct f a sparse
-  by-kept-form f g e r h = h ∙ ap (λ (x : Form). keptDistinct x a sparse) (sym e)
+module _ (waiting k : ℕ) (known : Bool) where
+  pub by-form : (f g : Form) → f ≡ g → (r : Bool) → r ≡ stillDistinct g waiting k known → r ≡ stillDistinct f waiting k known
+  by-form f g e r h = h ∙ ap (λ (x : Form). stillDistinct x waiting k known) (sym e)
 
-module _ (before after : ℕ) (known : Bool) where
-  pub by-list-form : (f g : Form) → f ≡ g → (r : Bool) → r ≡ listStill g before after known → r ≡ listStill f before after known
-  by-list-form f g e r h = h ∙ ap (λ (x : Form). listStill x before after known) (sym e)
+  pub some-wait : (waiting ≡ 0 → ⊥) → known ≡ stillDistinct Sparse waiting k known
+  some-wait h = sym (ap (λ (b : Bool). cond (b && not (eqb k 0)) true known) (ne-eqb waiting 0 h))
 
-  pub some-wait : (after ≡ 0 → ⊥) → known ≡ listStill Sparse before after known
-  some-wait h = sym (ap (λ (b : Bool). cond (b && not (eqb before 0)) true known) (ne-eqb after 0 h))
+  pub none-came : waiting ≡ 0 → k ≡ 0 → known ≡ stillDistinct Sparse waiting k known
+  none-came h e = sym (ap₂ (λ (b c : Bool). cond (b && not c) true known) (eq-eqb waiting 0 h) (eq-eqb k 0 e))
 
-  pub none-waited : after ≡ 0 → before ≡ 0 → known ≡ listStill Sparse before after known
-  none-waited h e = sym (ap₂ (λ (b c : Bool). cond (b && not c) true known) (eq-eqb after 0 h) (eq-eqb before 0 e))
+  pub all-merged : waiting ≡ 0 → (k ≡ 0 → ⊥) → true ≡ stillDistinct Sparse waiting k known
+  all-merged h e = sym (ap₂ (λ (b c : Bool). cond (b && not c) true known) (eq-eqb waiting 0 h) (ne-eqb k 0 e))
 
-  pub all-merged : after ≡ 0 → (before ≡ 0 → ⊥) → true ≡ listStill Sparse before after known
-  all-merged h e = sym (ap₂ (λ (b c : Bool). cond (b && not c) true known) (eq-eqb after 0 h) (ne-eqb before 0 e))
+  -- Where none wait only if none came in, what is said was known.
+  was-known : (waiting ≡ 0 → k ≡ 0) → stillDistinct Sparse waiting k known ≡ true → known ≡ true
+  was-known h = pick (eqb waiting 0) (eqb k 0) refl refl
+    where
+      pick : (x y : Bool) → eqb waiting 0 ≡ x → eqb k 0 ≡ y → cond (x && not y) true known ≡ true → known ≡ true
+      pick true true f g e = e
+      pick true false f g e = absurd (eqb-false k 0 g (h (eqb-true waiting 0 f)))
+      pick false y f g e = e
 
-pub by-form : (before after : Accumulator) (known : Bool) (f g : Form) → f ≡ g → (r : Bool) → r ≡ stillDistinct g before after known
-    → r ≡ stillDistinct f before after known
-by-form before after known f g e r h = h ∙ ap (λ (x : Form). stillDistinct x before after known) (sym e)
-
--- ---- before a state
-
-module _ (a : Accumulator) (sparse : List ℕ) (n : ℕ) where
-  abbrev kept : Bool
-  kept = keptDistinct (a .form) a sparse
-
-  pub look-long : 256 < n → false ≡ lookedAt a sparse n false
-  look-long h = sym (ap (λ (b : Bool). b && eqb (a .«pending_len») 0 && kept) (lt-leb n 256 h))
-
-  pub look-waiting : n ≤ 256 → (a .«pending_len» ≡ 0 → ⊥) → false ≡ lookedAt a sparse n false
-  look-waiting h w = sym (ap₂ (λ (b c : Bool). b && c && kept) (le-leb n 256 h) (ne-eqb (a .«pending_len») 0 w))
-
-  pub look-kept : n ≤ 256 → a .«pending_len» ≡ 0 → (r : Bool) → r ≡ kept → r ≡ lookedAt a sparse n false
-  look-kept h w r e = e ∙ sym (ap₂ (λ (b c : Bool). b && c && kept) (le-leb n 256 h) (eq-eqb (a .«pending_len») 0 w))
-
-  pub look-known : (known : Bool) → KnownDistinct known (a .precision) (a .«sparse_precision») (take (a .«sparse_len») sparse)
-      → KnownDistinct (lookedAt a sparse n known) (a .precision) (a .«sparse_precision») (take (a .«sparse_len») sparse)
-  look-known true is = is
-  look-known false is = λ (e : leb n 256 && eqb (a .«pending_len») 0 && kept ≡ true).
-      kept-known (a .form) a sparse (both-true (leb n 256 && eqb (a .«pending_len») 0) kept e .1)
+-- No two values of no list are of one slot.
+none-distinct : (p s : ℕ) → distinctSlots p s [] ≡ true
+unfolding distinctSlots
+none-distinct p s = refl
 
 -- ---- from one call to the next
 
-module _ (a : Accumulator) (m : Mem) (known : Bool) (is : KnownDistinct known (a .precision) (a .«sparse_precision») (keptOf a m)) where
-  -- What is known of what a call is to leave.
-  abbrev Still : After → Type 0
-  Still x =
-      KnownDistinct (listStill (x .head .form) (a .«pending_len») (x .head .«pending_len») known) (x .head .precision) (x .head .«sparse_precision») (x .kept)
+module _ (a : Accumulator) (m : Mem) (st : State) (vs : List ℕ) (known : Bool) (is : KnownDistinct known (a .precision) (a .«sparse_precision») (keptOf a m)) where
+  -- What is known of what an accepted state is to leave.
+  abbrev Still : Form → After → Type 0
+  Still f x =
+      KnownDistinct (stillDistinct f (x .head .«pending_len») (length vs) known) (x .head .precision) (x .head .«sparse_precision») (x .kept)
 
-  -- Where as many values wait as before, or more, nothing was merged.
-  as-before : (k : ℕ) → cond (eqb (a .«pending_len» + k) 0 && not (eqb (a .«pending_len») 0)) true known ≡ true → known ≡ true
-  as-before k = pick (eqb (a .«pending_len» + k) 0) (eqb (a .«pending_len») 0) refl refl
-    where
-      pick : (x y : Bool) → eqb (a .«pending_len» + k) 0 ≡ x → eqb (a .«pending_len») 0 ≡ y → cond (x && not y) true known ≡ true → known ≡ true
-      pick true true f g e = e
-      pick true false f g e =
-          absurd (eqb-false (a .«pending_len») 0 g (let z : a .«pending_len» ≡ 0 = omega (arith, eqb-true (a .«pending_len» + k) 0 f) in z))
-      pick false y f g e = e
+  still-settle : (l : List ℕ) (bytes : ℕ) → Still Sparse (settle a m st (merged (a .precision) (a .«sparse_precision») (keptOf a m) l) bytes)
+  still-settle l bytes =
+      settle-ways (Still Sparse) m st a (merged (a .precision) (a .«sparse_precision») (keptOf a m) l) bytes
+      (λ (t : ltb bytes (limit (a .precision)) ≡ true) e. merged-distinct (a .precision) (a .«sparse_precision») (keptOf a m) l)
+      (λ (t : ltb bytes (limit (a .precision)) ≡ false) e. none-distinct (a .precision) (a .«sparse_precision»))
 
-  same-before : cond (eqb (a .«pending_len») 0 && not (eqb (a .«pending_len») 0)) true known ≡ true → known ≡ true
-  same-before = pick (eqb (a .«pending_len») 0)
-    where
-      pick : (x : Bool) → cond (x && not x) true known ≡ true → known ≡ true
-      pick true e = e
-      pick false e = e
+  still-list : Still Sparse (listAfter a m st vs)
+  still-list =
+      list-ways (Still Sparse) m st a vs
+      (λ (t : waits a (length vs) ≡ true) e.
+      is (was-known (a .«pending_len» + length vs) (length vs) known (λ (h : a .«pending_len» + length vs ≡ 0). let z : length vs ≡ 0 = omega arith in z) e))
+      (still-settle (waitingOf a m ++ vs) _) (λ (t : not (eqb (a .«pending_len») 0) ≡ false). still-settle vs _)
+      (λ (t : not (eqb (a .«pending_len») 0) ≡ false). still-settle vs _)
 
-  still-settle : (st : State) (l : List ℕ) (bytes : ℕ) → distinctSlots (a .precision) (a .«sparse_precision») l ≡ true → Still (settle a m st l bytes)
-  still-settle st l bytes e =
-      settle-ways Still m st a l bytes (λ (t : ltb bytes (limit (a .precision)) ≡ true) f. e) (λ (t : ltb bytes (limit (a .precision)) ≡ false). never)
+  still-sparse : length vs ≤ length (listOf st) → Still Sparse (sparseAfter a m st vs)
+  still-sparse few =
+      sparse-ways (Still Sparse) m st a vs
+      (λ (t : isEmpty (dataOf st) ≡ true) (u : isEmpty (listOf st) ≡ true) e.
+      is (was-known (a .«pending_len») (length vs) known (λ (h : a .«pending_len» ≡ 0). let z : length vs ≡ 0 = omega (arith, few, eqb-true (length (listOf st)) 0 u) in z) e))
+      (λ (t : isEmpty (dataOf st) ≡ true). still-list)
+      (λ (t : isEmpty (dataOf st) ≡ false) e. none-distinct (a .precision) (a .«sparse_precision»))
 
-  still-merged : (st : State) (l : List ℕ) (bytes : ℕ) → Still (settle a m st (merged (a .precision) (a .«sparse_precision») (keptOf a m) l) bytes)
-  still-merged st l bytes =
-      still-settle st (merged (a .precision) (a .«sparse_precision») (keptOf a m) l) bytes (merged-distinct (a .precision) (a .«sparse_precision») (keptOf a m) l)
-
-  still-list : (st : State) (vs : List ℕ) → Still (listAfter a m st vs)
-  still-list st vs =
-      list-ways Still m st a vs (λ (t : waits a (length vs) ≡ true) e. is (as-before (length vs) e)) (still-merged st (waitingOf a m ++ vs) _)
-      (λ (t : not (eqb (a .«pending_len») 0) ≡ false). still-merged st vs _) (λ (t : not (eqb (a .«pending_len») 0) ≡ false). still-merged st vs _)
-
-  still-sparse : (st : State) (vs : List ℕ) → Still (sparseAfter a m st vs)
-  still-sparse st vs =
-      sparse-ways Still m st a vs (λ (t : isEmpty (dataOf st) ≡ true) (u : isEmpty (listOf st) ≡ true) e. is (same-before e))
-      (λ (t : isEmpty (dataOf st) ≡ true). still-list st vs) (λ (t : isEmpty (dataOf st) ≡ false). never)
+  still-accepted : (f : Form) → length vs ≤ length (listOf st) → Still f (acceptedAfter f a m st vs)
+  still-accepted Unstarted few = never
+  still-accepted Sparse few = still-sparse few
+  still-accepted Dense few = never
 
   -- And so of what it left.
-  of-shows : (x : After) (r : Accumulator) (n : Mem) → Shows x r n → Still x
-      → KnownDistinct (listStill (r .form) (a .«pending_len») (r .«pending_len») known) (r .precision) (r .«sparse_precision») (keptOf r n)
-  of-shows x r n sh s =
-      subst (λ (l : List ℕ). KnownDistinct (listStill (r .form) (a .«pending_len») (r .«pending_len») known) (r .precision) (r .«sparse_precision») l) (sym (sh .kept))
-      (subst (λ (h : Accumulator). KnownDistinct (listStill (h .form) (a .«pending_len») (h .«pending_len») known) (h .precision) (h .«sparse_precision») (x .kept)) (sym (sh .head)) s)
+  still-known : (room : ℕ) → Ready a m room st vs → (r : Accumulator) (n : Mem) → Shows (acceptedAfter (a .form) a m st vs) r n
+      → KnownDistinct (stillDistinct (a .form) (r .«pending_len») (length vs) known) (r .precision) (r .«sparse_precision») (keptOf r n)
+  still-known room ready r n shows =
+      subst (λ (l : List ℕ). KnownDistinct (stillDistinct (a .form) (r .«pending_len») (length vs) known) (r .precision) (r .«sparse_precision») l) (sym (shows .kept))
+      (subst (λ (h : Accumulator). KnownDistinct (stillDistinct (a .form) (h .«pending_len») (length vs) known) (h .precision) (h .«sparse_precision») (acceptedAfter (a .form) a m st vs .kept))
+      (sym (shows .head))
+      (still-accepted (a .form) (accepted (st .hll .precision) (st .hll .sparsePrecision) (listOf st) (ready .listed) .fewer)))
 
-  module _ (room : ℕ) (bytes : List ℕ) (r : Added) (n : Mem) (fit : fits a m ≡ true) (post : AddPost a m room bytes r n) where
-    still-list-form : a .form ≡ Sparse
-        → KnownDistinct (listStill (r .head .form) (a .«pending_len») (r .head .«pending_len») known) (r .head .precision) (r .head .«sparse_precision») (keptOf (r .head) n)
-    still-list-form f =
-        ⊎-elim
-        (λ (v : IsRefused a m r n).
-        of-shows (unchanged a m) (r .head) n (v .same)
-        (subst (λ (g : Form). KnownDistinct (listStill g (a .«pending_len») (a .«pending_len») known) (a .precision) (a .«sparse_precision») (keptOf a m)) (sym f)
-        (λ e. is (same-before e))))
-        (λ (v : IsAccepted a m room bytes r n).
-        of-shows (sparseAfter a m (stateIn bytes) (valuesIn (stateIn bytes))) (r .head) n
-        (subst (λ (g : Form). Shows (acceptedAfter g a m (stateIn bytes) (valuesIn (stateIn bytes))) (r .head) n) f (v .shows))
-        (still-sparse (stateIn bytes) (valuesIn (stateIn bytes))))
-        (add-view a m room bytes r n fit post)
-
-    pub still-known : KnownDistinct (stillDistinct (a .form) a (r .head) known) (r .head .precision) (r .head .«sparse_precision») (keptOf (r .head) n)
-    still-known = of-form (a .form) refl
-      where
-        of-form : (f : Form) → a .form ≡ f → KnownDistinct (stillDistinct f a (r .head) known) (r .head .precision) (r .head .«sparse_precision») (keptOf (r .head) n)
-        of-form Unstarted e = never
-        of-form Sparse e = still-list-form e
-        of-form Dense e = never
+-- The same as the code has it: the first k cells of `scratch` are the values that came in, and a flag was set.
+pub still-after : (a : Accumulator) (m : Mem) (st : State) (scratch : List ℕ) (k : ℕ) (known : Bool)
+    → KnownDistinct known (a .precision) (a .«sparse_precision») (keptOf a m) → AcceptPre a m scratch st k → (r : Accumulator) (n : Mem)
+    → Shows (acceptedAfter (a .form) a m st (take k scratch)) r n → (flag : Bool) → flag ≡ stillDistinct (a .form) (r .«pending_len») k known
+    → KnownDistinct flag (r .precision) (r .«sparse_precision») (keptOf r n)
+still-after a m st scratch k known is pre r n shows flag e =
+    subst (λ (b : Bool). KnownDistinct b (r .precision) (r .«sparse_precision») (keptOf r n))
+    (ap (λ (j : ℕ). stillDistinct (a .form) (r .«pending_len») j known) (length-take-le k scratch (pre .inside)) ∙ sym e)
+    (still-known a m st (take k scratch) known is (length scratch) (pre .ready) r n shows)

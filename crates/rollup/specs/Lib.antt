@@ -12,4 +12,3 @@ pub mod Accepting
 pub mod Judging
 pub mod Examples
 pub mod SparsePaths
-pub mod Knowing

@@ -8,7 +8,7 @@ ghost use Rattle.wire.specs.State.{stateOf};
 ghost use Rattle.rollup.specs.Accumulator.{mem, fits as headFits};
 ghost use Rattle.rollup.specs.Adding.{acceptedAfter, Shows, AddPost};
 ghost use Rattle.rollup.specs.SparsePaths.{KnownDistinct};
-ghost use Rattle.rollup.specs.Accepting.{AcceptPre, decodedRefusal};
+ghost use Rattle.rollup.specs.Accepting.{AcceptPre, decodedRefusal, stillDistinct, KnowingPost};
 use crate::accumulator::Accumulator;
 use crate::accumulator::Form;
 use crate::dense_paths;
@@ -23,6 +23,13 @@ use wire::state::Fields;
 pub struct Added {
     pub answer: u8,
     pub head: Accumulator,
+}
+
+// The same, and what is known of the list that is kept then: `distinct` says that it is one that a merge can leave.
+pub struct Knowing {
+    pub answer: u8,
+    pub head: Accumulator,
+    pub distinct: bool,
 }
 
 // Document 01's number of a refusal, for the `else` of a `let`.
@@ -68,7 +75,28 @@ fn accept(
     }
 }
 
-// Questions 2 to 20, of a head that fits, and then the path. `distinct` says that the values that are kept are known to be a list that a merge can leave.
+// What is known of the list after an accepted state, by the form before, how many values wait afterwards, and how many came in. Where some came in and none wait,
+// all were merged; else the list is as it was. Of the list of a first state nothing is known.
+fn still_distinct(before: Form, waiting: usize, k: usize, known: bool) -> bool
+    ensures { λ r. ⌜ r ≡ stillDistinct before waiting k known ⌝ }
+{
+    match before {
+        Form::Unstarted => false,
+        Form::Sparse => {
+            if waiting != 0 {
+                return known;
+            }
+            if k == 0 {
+                return known;
+            }
+            true
+        }
+        Form::Dense => false,
+    }
+}
+
+// Questions 2 to 20, of a head that fits, and then the path. `distinct` says that the list that is kept is known to be one that a merge can leave: where it is
+// not, an insertion walks the list first, and after that it is known. New: the Rust inserts without looking (document 01, "Difference").
 pub fn add_knowing(
     a: Accumulator,
     registers: &mut [u8],
@@ -77,15 +105,16 @@ pub fn add_knowing(
     scratch: &mut [u32],
     bytes: &[u8],
     distinct: bool,
-) -> Added
+) -> Knowing
     requires { ⌜ (headFits a (mem (now registers) (now sparse) (now pending)) ≡ true) × KnownDistinct distinct (a .precision) (a .«sparse_precision») (take (a .«sparse_len») (now sparse)) ⌝ }
-    ensures { λ r. ⌜ AddPost a (mem (now (registers .entry)) (now (sparse .entry)) (now (pending .entry))) (length (now (scratch .entry))) (now (bytes .entry)) r (mem (now (registers .exit)) (now (sparse .exit)) (now (pending .exit))) ⌝ }
+    ensures { λ r. ⌜ KnowingPost a (mem (now (registers .entry)) (now (sparse .entry)) (now (pending .entry))) (length (now (scratch .entry))) (now (bytes .entry)) r (mem (now (registers .exit)) (now (sparse .exit)) (now (pending .exit))) ⌝ }
 {
     let judged = judging::judge(a, bytes);
     let Judged::State(f) = judged else {
-        return Added {
+        return Knowing {
             answer: judging::judged_refusal(judged),
             head: a,
+            distinct,
         };
     };
     if !judging::has_room(
@@ -97,16 +126,18 @@ pub fn add_knowing(
         &pending[..],
         &scratch[..],
     ) {
-        return Added {
+        return Knowing {
             answer: 17,
             head: a,
+            distinct,
         };
     }
     let read = judging::decode_listed(bytes, f, scratch);
     let Decoded::Done(k) = read else {
-        return Added {
+        return Knowing {
             answer: decoded_refusal(read),
             head: a,
+            distinct,
         };
     };
     let head = accept(
@@ -120,10 +151,15 @@ pub fn add_knowing(
         k,
         distinct,
     );
-    Added { answer: 0, head }
+    let form = a.form;
+    Knowing {
+        answer: 0,
+        head,
+        distinct: still_distinct(form, head.pending_len, k, distinct),
+    }
 }
 
-// The same where nothing more is known of the list.
+// The same where nothing is known of the list.
 pub fn add_fitting(
     a: Accumulator,
     registers: &mut [u8],
@@ -135,7 +171,12 @@ pub fn add_fitting(
     requires { ⌜ headFits a (mem (now registers) (now sparse) (now pending)) ≡ true ⌝ }
     ensures { λ r. ⌜ AddPost a (mem (now (registers .entry)) (now (sparse .entry)) (now (pending .entry))) (length (now (scratch .entry))) (now (bytes .entry)) r (mem (now (registers .exit)) (now (sparse .exit)) (now (pending .exit))) ⌝ }
 {
-    add_knowing(a, registers, sparse, pending, scratch, bytes, false)
+    let r = add_knowing(a, registers, sparse, pending, scratch, bytes, false);
+    let head = r.head;
+    Added {
+        answer: r.answer,
+        head,
+    }
 }
 
 // Adds a state to a roll-up: document 01's questions in their order, and then the path.

@@ -10,6 +10,5 @@ pub mod dense_paths;
 pub mod fitting;
 pub mod header;
 pub mod judging;
-pub mod knowing;
 pub mod sparse_paths;
 pub mod writing;

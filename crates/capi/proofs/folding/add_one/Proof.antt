@@ -1,6 +1,5 @@
 -- A fold of one state, whose end is that of the bytes.
 use Prim.Native.Nat.{ℕ}
-use mathlib.Core.List.{[], _∷_}
 use lib.ListN.{length}
 use denote.Ref.{now}
 use Rattle.wire.proofs.BoolLaws.{said-yes, said-no}
@@ -44,7 +43,7 @@ slice-aggregate-fold-states-2 c = search needs
 fold-states-requires : tie.Need-fold-states-requires
 fold-states-requires c κs =
     let o = c .before .before .before .before .before .before .before .before .before .before .before .before .before .before .before .before in
-    one-pre (o .args .a) (m o) (length (now (o .args .state))) 0 (said-yes (c .before .before .before .before .before .before .before .fits2 .ensures) (c .before .before .before .before .before .before .if1 .left))
+    one-pre (o .args .a) (m o) (now (o .args .state)) 0 (said-yes (c .before .before .before .before .before .before .before .fits2 .ensures) (c .before .before .before .before .before .before .if1 .left))
 
 array-read-t34 : tie.Need-array-read-t34
 array-read-t34 c = search needs
@@ -64,7 +63,7 @@ same-length-7 c = search needs
 returns-2 : tie.Need-returns-2
 returns-2 c =
     let o = c .before .before .before .before .before .before .before .before .before .before .before .before .before .before .before .before .before .before .before .before .before .before .before .before .before .before in
-    one-state (o .args .a) (m o) (room o) (now (o .args .state)) (0 ∷ []) (c .before .before .before .before .before .before .before .before .before .fold-states .result) (mem (c .before .before .before .before .before .before .before .before .before .fold-states .last .1 .0) (c .before .before .before .before .before .before .before .before .before .fold-states .last .1 .1 .0) (c .before .before .before .before .before .before .before .before .before .fold-states .last .1 .1 .1 .0)) (c .before .before .before .before .before .before .before .before .before .fold-states .last .1 .1 .1 .1 .1 .1 .1 .0) (c .before .before .before .before .before .before .before .before .before .fold-states .ensures)
+    one-state (o .args .a) (m o) (room o) (now (o .args .state)) 0 (c .before .before .before .before .before .before .before .before .before .fold-states .result) (mem (c .before .before .before .before .before .before .before .before .before .fold-states .last .1 .0) (c .before .before .before .before .before .before .before .before .before .fold-states .last .1 .1 .0) (c .before .before .before .before .before .before .before .before .before .fold-states .last .1 .1 .1 .0)) (c .before .before .before .before .before .before .before .before .before .fold-states .last .1 .1 .1 .1 .1 .1 .1 .0) (c .before .before .before .before .before .before .before .before .before .fold-states .ensures)
 
 pub add-one-spec : {M : Type 1} → statement M
 add-one-spec =

@@ -1,37 +1,50 @@
--- The loop over the states: each turn adds one call to whatever run there was.
-use Prim.Native.Nat.{ℕ, _-_}
-use mathlib.Core.Path.{_≡_, refl, sym, _∙_, subst}
-use mathlib.Core.Bool.{Bool}
+-- The loop over the states: each turn adds one call to those before it.
+use Prim.Native.Nat.{ℕ, _-_, _≤_}
+use mathlib.Core.Path.{_≡_, refl, _∙_, subst}
 use native.Mathlib.Omega.{arith}
 use lib.ListN.{length, getD, take, length-set}
 use denote.Ref.{now}
 use Rattle.wire.proofs.BoolLaws.{never}
+use Rattle.rollup.specs.declared.adding.Added.{Added}
 use Rattle.rollup.specs.Accumulator.{Mem, mem}
 use Rattle.rollup.specs.Adding.{AddPost}
 use Rattle.rollup.specs.SparsePaths.{KnownDistinct}
-use Rattle.rollup.proofs.KnowingLaws.{look-fits, look-known, still-known}
-use Rattle.capi.proofs.FoldLaws.{Folding, fold-start, fold-turn, fold-end}
+use Rattle.capi.specs.Folds.{between}
+use Rattle.capi.proofs.FoldLaws.{Folding, fold-start, state-from, state-to, fold-turn, fold-end}
 use borrow.Author.Needs.{needs}
 use Rattle.capi.proofs.folding.fold_states.Statement.{statement}
 use Rattle.capi.proofs.folding.fold_states.Tie as tie
 
 abbrev Inv-loop : tie.InvT-loop
-Inv-loop registers₀ sparse₀ pending₀ scratch₀ bytes ends answers₀ head₀ known₀ start₀ i₀ registers sparse pending scratch answers head known start i =
+Inv-loop registers₀ sparse₀ pending₀ scratch₀ bytes ends answers₀ head₀ distinct₀ start₀ i₀ registers sparse pending scratch answers head distinct start i =
     Folding head₀ (mem registers₀ sparse₀ pending₀) (length scratch₀) bytes ends answers₀ start i head (mem registers sparse pending) answers
     × (length registers ≡ length registers₀)
     × (length sparse ≡ length sparse₀)
     × (length pending ≡ length pending₀)
     × (length scratch ≡ length scratch₀)
     × (length answers ≡ length answers₀)
-    × KnownDistinct known (head .precision) (head .«sparse_precision») (take (head .«sparse_len») sparse)
+    × KnownDistinct distinct (head .precision) (head .«sparse_precision») (take (head .«sparse_len») sparse)
 
 abbrev μ-loop : tie.MeasureT-loop
-μ-loop registers₀ sparse₀ pending₀ scratch₀ bytes ends answers₀ head₀ known₀ start₀ i₀ registers sparse pending scratch answers head known start i =
+μ-loop registers₀ sparse₀ pending₀ scratch₀ bytes ends answers₀ head₀ distinct₀ start₀ i₀ registers sparse pending scratch answers head distinct start i =
     length ends - i
 
 -- The memory as the call gets it.
 abbrev m : tie.Start Inv-loop μ-loop → Mem
 m o = mem (now (o .args .registers)) (now (o .args .sparse)) (now (o .args .pending))
+
+-- The state of a turn is in the bytes.
+from : (c : tie.In-loop Inv-loop μ-loop) → c .before .loop .start ≤ getD (now (c .before .before .before .before .before .before .before .before .before .args .ends)) (c .before .loop .i) 0
+from c =
+    let o = c .before .before .before .before .before .before .before .before .before in
+    let l = c .before .loop in
+    state-from (o .args .a) (m o) (length (now (o .args .scratch))) (now (o .args .bytes)) (now (o .args .ends)) (now (o .args .answers)) (l .start) (l .i) (l .head) (mem (l .registers) (l .sparse) (l .pending)) (l .answers) (l .inv .0) (getD (now (o .args .ends)) (l .i) 0) (c .loop-test .taken) refl
+
+to : (c : tie.In-loop Inv-loop μ-loop) → getD (now (c .before .before .before .before .before .before .before .before .before .args .ends)) (c .before .loop .i) 0 ≤ length (now (c .before .before .before .before .before .before .before .before .before .args .bytes))
+to c =
+    let o = c .before .before .before .before .before .before .before .before .before in
+    let l = c .before .loop in
+    state-to (o .args .a) (m o) (length (now (o .args .scratch))) (now (o .args .bytes)) (now (o .args .ends)) (now (o .args .answers)) (l .start) (l .i) (l .head) (mem (l .registers) (l .sparse) (l .pending)) (l .answers) (l .inv .0) (getD (now (o .args .ends)) (l .i) 0) (c .loop-test .taken) refl
 
 loop-holds : tie.Need-loop-holds Inv-loop μ-loop
 loop-holds c =
@@ -44,44 +57,37 @@ mul-end c = search needs
 shared-slice-read-end : tie.Need-shared-slice-read-end Inv-loop μ-loop
 shared-slice-read-end c = search needs
 
-between-requires : tie.Need-between-requires Inv-loop μ-loop
-between-requires c κs = search needs
+sub-add-knowing : tie.Need-sub-add-knowing Inv-loop μ-loop
+sub-add-knowing c = omega (arith, from (c .before .before .before .before .before), to (c .before .before .before .before .before))
 
-look-requires : tie.Need-look-requires Inv-loop μ-loop
-look-requires c κs = look-fits (c .before .before .before .before .loop .head) (mem (c .before .before .before .before .loop .registers) (c .before .before .before .before .loop .sparse) (c .before .before .before .before .loop .pending)) (c .before .before .before .before .loop .inv .0 .fit)
+part-add-knowing-start : tie.Need-part-add-knowing-start Inv-loop μ-loop
+part-add-knowing-start c = omega (arith, from (c .before .before .before .before .before), to (c .before .before .before .before .before))
+
+part-add-knowing-end : tie.Need-part-add-knowing-end Inv-loop μ-loop
+part-add-knowing-end c = omega (arith, from (c .before .before .before .before .before), to (c .before .before .before .before .before))
 
 add-knowing-requires : tie.Need-add-knowing-requires Inv-loop μ-loop
-add-knowing-requires c κs =
-    let l = c .before .before .before .before .before .before .before .before .before .loop in (
-      l .inv .0 .fit,
-      subst (λ (b : Bool). KnownDistinct b (l .head .precision) (l .head .«sparse_precision») (take (l .head .«sparse_len») (l .sparse))) (sym (c .before .before .before .before .look .ensures))
-          (look-known (l .head) (l .sparse) (length (now (c .before .before .before .before .before .before .between .result))) (l .known) (l .inv .6)),
-    )
-
-still-distinct-requires : tie.Need-still-distinct-requires Inv-loop μ-loop
-still-distinct-requires c κs = search needs
+add-knowing-requires c κs = (c .before .before .before .before .before .before .before .loop .inv .0 .fit, c .before .before .before .before .before .before .before .loop .inv .6)
 
 slice-write-answers : tie.Need-slice-write-answers Inv-loop μ-loop
 slice-write-answers c = search needs
 
 add-i : tie.Need-add-i Inv-loop μ-loop
-add-i c = omega (arith, c .before .before .before .before .before .before .before .before .before .before .before .before .before .before .before .before .before .before .before .loop-test .taken, c .before .before .before .before .before .before .before .before .before .before .before .before .before .before .before .before .before .before .before .before .before .before .before .before .before .before .before .before .good)
+add-i c = omega (arith, c .before .before .before .before .before .before .before .before .before .before .before .before .before .before .before .before .loop-test .taken, c .before .before .before .before .before .before .before .before .before .before .before .before .before .before .before .before .before .before .before .before .before .before .before .before .before .good)
 
 loop-less : tie.Need-loop-less Inv-loop μ-loop
 loop-less c = search needs
 
 loop-again : tie.Need-loop-again Inv-loop μ-loop
 loop-again c =
-    let o = c .before .before .before .before .before .before .before .before .before .before .before .before .before .before .before .before .before .before .before .before .before .before .before .before .before .before .before .before in
-    let l = c .before .before .before .before .before .before .before .before .before .before .before .before .before .before .before .before .before .before .before .before .loop in
-    let r = c .before .before .before .before .before .before .before .before .before .before .add-knowing .result in
-    let state = now (c .before .before .before .before .before .before .before .before .before .before .before .before .before .before .before .before .before .between .result) in
+    let o = c .before .before .before .before .before .before .before .before .before .before .before .before .before .before .before .before .before .before .before .before .before .before .before .before .before in
+    let l = c .before .before .before .before .before .before .before .before .before .before .before .before .before .before .before .before .before .loop in
+    let end = getD (now (o .args .ends)) (l .i) 0 in
+    let r : Added = record { answer = c .before .before .before .before .before .before .before .before .before .add-knowing .result .answer; head = c .before .before .before .before .before .before .before .before .before .add-knowing .result .head } in
     let before = mem (l .registers) (l .sparse) (l .pending) in
-    let after = mem (c .before .before .before .before .before .before .before .before .before .before .add-knowing .last .1 .0) (c .before .before .before .before .before .before .before .before .before .before .add-knowing .last .1 .1 .0) (c .before .before .before .before .before .before .before .before .before .before .add-knowing .last .1 .1 .1 .0) in
-    let post = subst (λ (k : ℕ). AddPost (l .head) before k state r after) (l .inv .4) (c .before .before .before .before .before .before .before .before .before .before .add-knowing .ensures) in
-    let distinct = subst (λ (b : Bool). KnownDistinct b (l .head .precision) (l .head .«sparse_precision») (take (l .head .«sparse_len») (l .sparse))) (sym (c .before .before .before .before .before .before .before .before .before .before .before .before .before .before .before .look .ensures))
-    (look-known (l .head) (l .sparse) (length (now (c .before .before .before .before .before .before .before .before .before .before .before .before .before .before .before .before .before .between .result))) (l .known) (l .inv .6)) in
-    (fold-turn (o .args .a) (m o) (length (now (o .args .scratch))) (now (o .args .bytes)) (now (o .args .ends)) (now (o .args .answers)) (l .start) (l .i) (l .head) before (l .answers) (l .inv .0) (getD (now (o .args .ends)) (l .i) 0) state r after (c .before .before .before .before .before .before .before .before .before .before .before .before .before .before .before .before .before .before .before .loop-test .taken) refl (c .before .before .before .before .before .before .before .before .before .before .before .before .before .before .before .before .before .between .ensures) post, c .before .before .before .before .before .before .before .before .before .before .add-knowing .kept .1 .0 ∙ l .inv .1, c .before .before .before .before .before .before .before .before .before .before .add-knowing .kept .1 .1 .0 ∙ l .inv .2, c .before .before .before .before .before .before .before .before .before .before .add-knowing .kept .1 .1 .1 .0 ∙ l .inv .3, c .before .before .before .before .before .before .before .before .before .before .add-knowing .kept .1 .1 .1 .1 .0 ∙ l .inv .4, length-set (l .answers) (l .i) (r .answer) ∙ l .inv .5, subst (λ (b : Bool). KnownDistinct b (r .head .precision) (r .head .«sparse_precision») (take (r .head .«sparse_len») (c .before .before .before .before .before .before .before .before .before .before .add-knowing .last .1 .1 .0))) (sym (c .before .still-distinct .ensures)) (still-known (l .head) before (c .before .before .before .before .before .before .before .before .before .before .before .before .before .before .before .look .result) distinct (length (now (o .args .scratch))) state r after (l .inv .0 .fit) post))
+    let after = mem (c .before .before .before .before .before .before .before .before .before .add-knowing .last .1 .0) (c .before .before .before .before .before .before .before .before .before .add-knowing .last .1 .1 .0) (c .before .before .before .before .before .before .before .before .before .add-knowing .last .1 .1 .1 .0) in
+    let post = subst (λ (k : ℕ). AddPost (l .head) before k (between (now (o .args .bytes)) (l .start) end) r after) (l .inv .4) (c .before .before .before .before .before .before .before .before .before .add-knowing .ensures .added) in
+    (fold-turn (o .args .a) (m o) (length (now (o .args .scratch))) (now (o .args .bytes)) (now (o .args .ends)) (now (o .args .answers)) (l .start) (l .i) (l .head) before (l .answers) (l .inv .0) end (c .before .before .before .before .before .before .before .before .before .before .before .before .before .before .before .before .loop-test .taken) refl r after post, c .before .before .before .before .before .before .before .before .before .add-knowing .kept .1 .0 ∙ l .inv .1, c .before .before .before .before .before .before .before .before .before .add-knowing .kept .1 .1 .0 ∙ l .inv .2, c .before .before .before .before .before .before .before .before .before .add-knowing .kept .1 .1 .1 .0 ∙ l .inv .3, c .before .before .before .before .before .before .before .before .before .add-knowing .kept .1 .1 .1 .1 .0 ∙ l .inv .4, length-set (l .answers) (l .i) (r .answer) ∙ l .inv .5, c .before .before .before .before .before .before .before .before .before .add-knowing .ensures .known)
 
 same-length : tie.Need-same-length Inv-loop μ-loop
 same-length c = search needs
@@ -113,10 +119,10 @@ fold-states-spec =
     loop-holds
     mul-end
     shared-slice-read-end
-    between-requires
-    look-requires
+    sub-add-knowing
+    part-add-knowing-start
+    part-add-knowing-end
     add-knowing-requires
-    still-distinct-requires
     slice-write-answers
     add-i
     loop-less

@@ -20,7 +20,7 @@ same-length-4 : tie.Need-same-length-4
 same-length-4 c = search needs
 
 returns : tie.Need-returns
-returns c = search needs
+returns c = c .before .before .before .before .before .before .before .before .before .add-knowing .ensures .added
 
 pub add-fitting-spec : {M : Type 1} → statement M
 add-fitting-spec = tie.close (tie.spec add-knowing-requires same-length same-length-2 same-length-3 same-length-4 returns)
