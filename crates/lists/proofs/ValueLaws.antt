@@ -1,4 +1,5 @@
--- Laws of the values of a sparse list: the mark, validity, index, register and rank, and lowering. No other file unfolds their definitions.
+-- Laws of the values of a sparse list: the mark, validity, index, register and rank, and lowering. Of the other law files only MergeLaws unfolds one of
+-- their definitions, the mark, for the groups of 64 values that it makes.
 use Prim.Native.Nat.{ℕ, zero, suc, _+_, _*_, _-_, _/_, _%_, _^_, _<_, _≤_}
 use mathlib.Core.Path.{_≡_, refl, sym, ap, ap₂, _∙_, subst}
 use mathlib.Core.Bool.{Bool, true, false, not, _&&_, true≢false}
