@@ -3,19 +3,17 @@ use mathlib.Core.Path.{_≡_, sym, ap, _∙_, subst}
 use mathlib.Core.List.{List, [], _∷_, List·Memᴰ, List·Memᴰ·cases-cons, List·Memᴰ·not-nil}
 use mathlib.Core.Bool.{true, false}
 use mathlib.Core.Logic.{_⊎_, ⊎-elim}
-use Prim.Native.Nat.{ℕ, _-_, _*_, _/_, _%_, _≤_}
+use Prim.Native.Nat.{ℕ, _*_, _/_, _≤_}
 use native.Mathlib.Omega.{arith}
-use lib.ListN.{length, take}
 use borrow.Author.Tests.{eqb-false}
-use Rattle.lists.specs.declared.merging.Merged.{Merged}
-use Rattle.lists.specs.Values.{mark, marked, markedIndex, markedRank, valid}
+use Rattle.lists.specs.Values.{marked, markedIndex, valid}
 use Rattle.lists.specs.Order.{Ascending}
-use Rattle.lists.specs.Lists.{written, slot, sameSlotFirst, merged, distinctSlots, MergePost}
+use Rattle.lists.specs.Lists.{written, slot, sameSlotFirst, merged, distinctSlots}
 use Rattle.lists.specs.MergeSays.{SuchList, AcceptedSentence, InEither, MarkedAt, PlainAt, LargestKept, MergeSays, MergeSentence}
 use Rattle.lists.proofs.ValueLaws.{marked-ge}
 use Rattle.lists.proofs.DecodingLaws.{accepted}
 use Rattle.lists.proofs.OrderLaws.{ascending, ascending-least, least-mem}
-use Rattle.lists.proofs.MergeLaws.{mark-groups, marked-group, slot-marked, slot-group, slot-mono, distinct-first, distinct-rest, valid-mem, Kept, merged-ascends, merged-distinct, merged-rises, merged-from, merged-has, merged-plain, length-encode}
+use Rattle.lists.proofs.MergeLaws.{mark-groups, marked-group, slot-marked, slot-group, slot-mono, distinct-first, distinct-rest, valid-mem, merged-ascends, merged-distinct, merged-rises, merged-from, merged-has, merged-plain, length-encode}
 
 module _ (p s : ℕ) where
   -- ---- an index is a slot

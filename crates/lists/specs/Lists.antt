@@ -106,7 +106,7 @@ abbrev pub Decodes : Read (List ℕ) → Decoded → List ℕ → Type 0
 Decodes (got vs l) r out = (r ≡ Done (length vs)) × (take (length vs) out ≡ vs)
 Decodes (refused n) r out = r ≡ Refused n
 
--- The cells past the values of a list are as they were. Those that a refused list was read into are free: they hold anything, as many as before.
+-- The cells past the values of a list are as they were. Where a list is refused every cell is free: they hold anything, as many as before.
 abbrev pub DecodeFree : Decoded → List ℕ → List ℕ → Type 0
 DecodeFree (Done n) before after = drop n after ≡ drop n before
 DecodeFree (Refused n) before after = length after ≡ length before
