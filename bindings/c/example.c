@@ -19,7 +19,7 @@ int main(void) {
     if (answer == 0)
         answer = filmoed_fold(head, FILMOED_HEAD, registers, 65536, sparse, 16384, pending, 16384, scratch, 16384, states, sizeof states, ends, 2, answers, 2);
     if (answer != 0) {
-        fprintf(stderr, "refused with %d\n", answer);
+        fprintf(stderr, answer == FILMOED_BAD_ENDS ? "ends that do not fit: %d\n" : "refused with %d\n", answer);
         return 1;
     }
     for (int i = 0; i < 2; i++)

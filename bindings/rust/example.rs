@@ -2,7 +2,7 @@
 
 mod filmoed;
 
-use filmoed::RollUp;
+use filmoed::{RollUp, BAD_ENDS};
 
 fn main() -> Result<(), filmoed::Refused> {
     let state = *b"\x08\x70\x10\x02\x18\x02\x20\x08\x82\x07\x0c\x10\x02\x18\x0a\x20\x0f\x32\x04\x21\xe2\x80\x04";
@@ -13,6 +13,8 @@ fn main() -> Result<(), filmoed::Refused> {
         answer?;
         println!("{} 0", i + 2);
     }
+    // An end past the states: the fold is refused as a whole.
+    assert_eq!(roll_up.fold(&state, &[24]), Err(BAD_ENDS));
     let mut out = [0; 65536];
     let written = roll_up.write(&mut out)?.to_vec();
     println!("{:?} {}", roll_up.precisions(), roll_up.num_values());

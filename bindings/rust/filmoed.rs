@@ -39,11 +39,6 @@ fn answered(answer: u8) -> Result<(), Refused> {
 pub struct Answers(Vec<u8>);
 
 impl Answers {
-    /// Whether each state was added; or the first that was not, counted from 0, and why.
-    pub fn all(&self) -> Result<(), (usize, Refused)> {
-        self.iter().enumerate().try_for_each(|(i, answer)| answer.map_err(|refused| (i, refused)))
-    }
-
     pub fn iter(&self) -> impl Iterator<Item = Result<(), Refused>> + '_ {
         self.0.iter().map(|&answer| answered(answer))
     }
