@@ -151,11 +151,11 @@ pub fn add_knowing(
         k,
         distinct,
     );
-    let form = a.form;
+    let before = a.form;
     Knowing {
         answer: 0,
         head,
-        distinct: still_distinct(form, head.pending_len, k, distinct),
+        distinct: still_distinct(before, head.pending_len, k, distinct),
     }
 }
 

@@ -174,7 +174,7 @@ fn takes(cells: usize, kept: usize, waiting: usize, new: usize) -> bool
 }
 
 // The smaller of two lengths.
-pub fn least(x: usize, y: usize) -> usize
+fn least(x: usize, y: usize) -> usize
     ensures { λ r. ⌜ r ≡ min x y ⌝ }
 {
     if x < y { x } else { y }
