@@ -14,7 +14,7 @@ use denote.Enum.Declared as E
 use Rattle.wire.specs.Varints.{PutPost}
 use Rattle.batch.specs.Chain.{chainOf}
 use Rattle.batch.specs.Packing.{wordBytes, packed, RecordPost}
-use Rattle.batch.proofs.PackingLaws.{Open, open-start, open-packed, open-next, word-length, record-length, packed-chain}
+use Rattle.batch.proofs.PackingLaws.{Open, open-start, open-packed, open-next, word-length, record-length, Finds, packed-chain}
 use Rattle.console.specs.Input.{upTo}
 use Rattle.exports.specs.declared.packing.Place.{Place}
 use Rattle.exports.specs.declared.packing.Turn.{Turn}
@@ -218,8 +218,8 @@ made-counts x r out n e post = let m = made x r out n e post in (m .inside, sym 
 
 -- What is packed into 65,536 bytes at most, walks as the states of the lines in order.
 pub made-walks : (x : Packing) (r : Packed) (out : List ℕ) (n : ℕ) → length out ≤ 65536 → (e : r ≡ Batch n) (post : PackedPost x r out)
-    → chainOf (take n out) ≡ record { states = made x r out n e post .states; ending = 0 }
+    → Finds (take n out) (chainOf (take n out)) (made x r out n e post .states)
 made-walks x r out n short e post =
     let m = made x r out n e post in
     let size : length (packed (m .states)) ≡ n = ap (λ (l : List ℕ). length l) (sym (m .bytes)) ∙ length-take-le n out (m .inside) in
-    ap chainOf (m .bytes) ∙ packed-chain (m .states) (omega (arith, m .inside))
+    subst (λ (b : List ℕ). Finds b (chainOf b) (m .states)) (sym (m .bytes)) (packed-chain (m .states) (omega (arith, m .inside)))
