@@ -4,22 +4,26 @@ use mathlib.Core.List.{List, [], _∷_, _++_, append-nil}
 use mathlib.Core.Bool.{Bool, true, false, cond, true≢false}
 use mathlib.Core.Option.{Option, none, some}
 use mathlib.Core.Logic.{_⊎_, inl, inr}
-use Prim.Native.Nat.{ℕ, _+_, _*_, _-_, _%_, _^_, _<_, _≤_}
+use Prim.Native.Nat.{ℕ, zero, suc, _+_, _*_, _-_, _%_, _^_, _<_, _≤_}
+use native.Mathlib.Nat.{lt-of-le-of-lt}
 use native.Mathlib.Numerals.{add-one}
 use native.Mathlib.Omega.{arith}
 use lib.ListN.{length, set, drop, take, getD, drop-of-length-le}
 use lib.Seq.{length-take-le, drop-cons, drop-drop, append-snoc, take-suc-set, drop-set-lt}
-use lib.Dec.{ltb}
-use borrow.Rule.Slice.PartMut.{midOf, putMid, mid-len, same-len-mid, take-put}
+use lib.Dec.{ltb, T, lit<}
+use lib.IntN.{ℤ, pos, negsuc, natAbs}
+use lib.Signed.{ltZ, nonNeg, pos-natAbs, natAbs-le}
+use mir.Syntax.{w64}
+use mir.Val.{Fits, SFits}
 use borrow.Author.Tests.{lt-ltb, le-ltb, ltb-true, ltb-false, eq-eqb, ne-eqb}
 use Rattle.io.specs.Counts.{Counts}
-use Rattle.console.specs.declared.input.Part.{Part}
-use Rattle.console.specs.declared.input.Part.the-variants.{Bytes as PartBytes}
 use Rattle.console.specs.declared.input.Bytes.{Bytes}
 use Rattle.console.specs.declared.input.Bytes.the-variants.{Count}
 use Rattle.console.specs.declared.input.Stream.{Stream}
-use Rattle.console.specs.declared.input.Stream.the-variants.{All}
-use Rattle.console.specs.Input.{ReadPost, StreamPost, BytesPost, upTo, digitOf, decimalFrom, decimalOf, below64, consTo, byteThen, hexOf, onto}
+use Rattle.console.specs.declared.input.Stream.the-variants.{All, Failed, Full}
+use Rattle.console.specs.declared.input.Reading.{Reading}
+use Rattle.console.specs.declared.input.Reading.the-variants.{More, Done}
+use Rattle.console.specs.Input.{soFar, readingOf, StreamPost, BytesPost, upTo, digitOf, decimalFrom, decimalOf, below64, consTo, byteThen, hexOf, onto}
 
 -- One of two numbers is the smaller.
 pub side : (a b : ℕ) → (a < b) ⊎ (b ≤ a)
@@ -201,28 +205,63 @@ hex-done word before out i n e l room whole rest = (
   (room, sym (length-take-le n out room)),
 )
 
--- ---- a read into the part of a buffer from n on
+-- ---- a read
 
--- The bytes that came lie inside the buffer, whose length stays.
-pub part-read : (buf last : List ℕ) (n k : ℕ) (r : Part)
-    → n ≤ length buf
-    → length last ≡ length (midOf n (length buf - n) buf)
-    → r ≡ PartBytes k
-    → ReadPost last r
-    → (0 < k) × (n + k ≤ length buf)
-part-read buf last n k r h same e p =
-    let w : (0 < k) × (k ≤ length last) = subst (ReadPost last) e p in
-    (w .0, omega (arith, w .1, mid-len n (length buf) buf (omega arith)))
+-- A number that is not below 0, as `got < 0` leaves it: z is what the machine reads back of `got`.
+pub not-below : (z : ℤ) → ltZ z (pos 0) ≡ false → T (nonNeg z)
+not-below (pos k) h = tt
+not-below (negsuc k) h = absurd (true≢false h)
 
--- What stands before the part is as it was.
-pub part-counts : (buf last : List ℕ) (n : ℕ)
-    → n ≤ length buf
-    → length last ≡ length (midOf n (length buf - n) buf)
-    → Counts n (putMid n (length buf - n) buf last)
-part-counts buf last n h same = (
-  omega (arith, same-len-mid n (length buf - n) buf last same),
-  sym (ap length (take-put n (length buf - n) buf last h) ∙ length-take-le n buf h),
-)
+-- What was read, as it is cast.
+pub got-fits : (z : ℤ) → SFits w64 z → Fits w64 (natAbs z)
+got-fits z f = record { fits = lt-of-le-of-lt (natAbs-le z (f .sfits)) (lit< tt) }
+
+module _ (n len : ℕ) (z got : ℤ) (e : z ≡ got) where
+  pub reading-failed : ltZ z (pos 0) ≡ true → Done Failed ≡ readingOf n got len
+  unfolding readingOf
+  reading-failed h = below z h ∙ ap (λ (x : ℤ). readingOf n x len) e
+    where
+      below : (x : ℤ) → ltZ x (pos 0) ≡ true → Done Failed ≡ readingOf n x len
+      below (pos k) h = let z : ⊥ = omega (arith, ltb-true k 0 h) in absurd z
+      below (negsuc k) h = refl
+
+  module _ (h : ltZ z (pos 0) ≡ false) where
+    counted-is : readingOf n (pos (natAbs z)) len ≡ readingOf n got len
+    counted-is = ap (λ (x : ℤ). readingOf n x len) (pos-natAbs z (not-below z h) ∙ e)
+
+    pub reading-full : len ≤ n + natAbs z → Done Full ≡ readingOf n got len
+    unfolding readingOf
+    reading-full full = sym (rw (le-ltb (n + natAbs z) len full)) ∙ counted-is
+
+    pub reading-all : n + natAbs z < len → natAbs z ≡ 0 → Done (All n) ≡ readingOf n got len
+    unfolding readingOf
+    reading-all room end = sym (rw (lt-ltb (n + natAbs z) len room) (ap (λ (k : ℕ). soFar k n) end)) ∙ counted-is
+
+    pub reading-more : n + natAbs z < len → 0 < natAbs z → More (n + natAbs z) ≡ readingOf n got len
+    unfolding readingOf
+    reading-more room came = sym (rw (lt-ltb (n + natAbs z) len room) (next (natAbs z) came)) ∙ counted-is
+      where
+        next : (k : ℕ) → 0 < k → soFar k n ≡ More (n + k)
+        next zero h = let z : ⊥ = omega arith in absurd z
+        next (suc k) h = refl
+
+-- More bytes than before have come, and the buffer has room for others; or what is known of the stream is what `read_all` promises.
+abbrev pub Goes : ℕ → List ℕ → Reading → Type 0
+Goes n buf (More m) = (n < m) × (m < length buf)
+Goes n buf (Done stream) = StreamPost buf stream
+
+reading-goes : (buf : List ℕ) (n : ℕ) (got : ℤ) → Goes n buf (readingOf n got (length buf))
+unfolding readingOf
+reading-goes buf n (negsuc k) = tt
+reading-goes buf n (pos k) = go k (ltb (n + k) (length buf)) refl
+  where
+    go : (k : ℕ) (t : Bool) → ltb (n + k) (length buf) ≡ t → Goes n buf (cond t (soFar k n) (Done Full))
+    go zero true e = let h = ltb-true (n + 0) (length buf) e in (omega arith, (omega arith, sym (length-take-le n buf (omega arith))))
+    go (suc k) true e = (omega arith, ltb-true (n + suc k) (length buf) e)
+    go k false e = tt
+
+pub reading-next : (buf : List ℕ) (n : ℕ) (got : ℤ) {r s : Reading} → r ≡ s → r ≡ readingOf n got (length buf) → Goes n buf s
+reading-next buf n got e h = subst (Goes n buf) (sym h ∙ e) (reading-goes buf n got)
 
 -- ---- for callers: the front that an answer counts
 
@@ -230,4 +269,4 @@ pub counted : (word out after : List ℕ) (r : Bytes) (n : ℕ) → r ≡ Count 
 counted word out after r n e p = subst (λ (x : Bytes). BytesPost word out x after) e p .2
 
 pub streamed : (buf : List ℕ) (r : Stream) (n : ℕ) → r ≡ All n → StreamPost buf r → Counts n buf
-streamed buf r n e p = subst (StreamPost buf) e p
+streamed buf r n e p = subst (StreamPost buf) e p .1

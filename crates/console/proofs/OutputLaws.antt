@@ -1,4 +1,4 @@
--- Laws of the text of an answer: bytes alike, hexadecimal, signed decimals.
+-- Laws of what a program says, and of the text of an answer: bytes alike, hexadecimal, signed decimals.
 use mathlib.Core.Path.{_≡_, refl, sym, ap, ap₂, _∙_, subst}
 use mathlib.Core.List.{List, [], _∷_, _++_, append-assoc, append-nil}
 use mathlib.Core.Bool.{Bool, true, false}
@@ -13,7 +13,35 @@ use borrow.Author.Tests.{lt-ltb, le-ltb, eq-eqb, ne-eqb}
 use Rattle.io.specs.Digits.{glyph, digits, Fewest}
 use Rattle.io.specs.Counts.{Counts}
 use Rattle.console.proofs.InputLaws.{side}
-use Rattle.console.specs.Output.{allAre, hexText, HexPost, Decimal, SignedBy, SignedPost}
+use Rattle.console.specs.declared.output.Said.{Said}
+use Rattle.console.specs.declared.output.Said.the-variants.{Out, Err}
+use Rattle.console.specs.Output.{out as Saying·out, err as Saying·err, sizeOf, SaidPost, allAre, hexText, HexPost, Decimal, SignedBy, SignedPost}
+
+-- ---- what a program says
+
+-- Bytes put at the front stand there, and the rest is as it was.
+module _ (before bytes : List ℕ) {after : List ℕ} {n : ℕ} (room : length bytes ≤ length before) (size : n ≡ length bytes) (put : after ≡ sets before 0 bytes) where
+  parts : after ≡ bytes ++ drop n before
+  parts = put ∙ sets-eq bytes before 0 (omega arith) ∙ ap (λ (k : ℕ). bytes ++ drop k before) (let e : 0 + length bytes ≡ n = omega arith in e)
+
+  front : take n after ≡ bytes
+  front = ap (take n) parts ∙ take-at bytes (drop n before) n (sym size)
+
+  behind : drop n after ≡ drop n before
+  behind = ap (drop n) parts ∙ drop-at bytes (drop n before) n (sym size)
+
+  inside : Counts n after
+  inside = let fits : n ≤ length after = omega (arith, ap length put ∙ length-sets before 0 bytes) in (fits, sym (length-take-le n after fits))
+
+  pub said-out : SaidPost (Saying·out bytes) before (Out n) after
+  said-out = record { says = ap Saying·out front; rest = behind; counts = inside }
+
+  pub said-err : SaidPost (Saying·err bytes) before (Err n) after
+  said-err = record { says = ap Saying·err front; rest = behind; counts = inside }
+
+-- The front that is counted of what is said.
+pub said-counts : {r s : Said} (text : List ℕ) → r ≡ s → Counts (sizeOf r) text → Counts (sizeOf s) text
+said-counts text e c = subst (λ (x : Said). Counts (sizeOf x) text) e c
 
 -- ---- bytes alike
 

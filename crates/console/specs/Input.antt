@@ -4,27 +4,34 @@ use mathlib.Core.List.{List, [], _∷_, _++_}
 use mathlib.Core.Bool.{cond}
 use mathlib.Core.Option.{Option, none, some}
 use mathlib.Core.Logic.{_⊎_}
-use Prim.Native.Nat.{ℕ, _+_, _*_, _-_, _/_, _^_, _≤_, _<_}
+use Prim.Native.Nat.{ℕ, zero, suc, _+_, _*_, _-_, _/_, _^_, _≤_, _<_}
 use lib.Dec.{ltb, eqb}
+use lib.IntN.{ℤ, pos, negsuc}
 use lib.ListN.{length, take, drop}
 use Rattle.io.specs.Counts.{Counts}
-use Rattle.console.specs.declared.input.Part.{Part}
-use Rattle.console.specs.declared.input.Part.the-variants.{Bytes as PartBytes, End, Failed as PartFailed}
 use Rattle.console.specs.declared.input.Stream.{Stream}
 use Rattle.console.specs.declared.input.Stream.the-variants.{All, Failed, Full}
+use Rattle.console.specs.declared.input.Reading.{Reading}
+use Rattle.console.specs.declared.input.Reading.the-variants.{More, Done}
 use Rattle.console.specs.declared.input.Number.{Number}
 use Rattle.console.specs.declared.input.Number.the-variants.{Value, Other as NumberOther}
 use Rattle.console.specs.declared.input.Bytes.{Bytes}
 use Rattle.console.specs.declared.input.Bytes.the-variants.{Count, Other as BytesOther}
 
--- What a read may answer for a buffer that is then buf. Which bytes came, nothing can say.
-abbrev pub ReadPost : List ℕ → Part → Type 0
-ReadPost buf (PartBytes n) = (0 < n) × (n ≤ length buf)
-ReadPost buf End = Unit
-ReadPost buf PartFailed = Unit
+-- What k bytes more make of a stream of which n have come into a buffer that is not full: none is the end.
+abbrev pub soFar : ℕ → ℕ → Reading
+soFar zero n = Done (All n)
+soFar (suc k) n = More (n + suc k)
 
+-- n bytes of a buffer of `len` have come, and one more read, into the rest of it, has answered `got`: below 0 it failed, else so many bytes more came. A
+-- buffer without a byte to spare is full, and does not tell whether the stream has ended.
+unfoldable pub readingOf : ℕ → ℤ → ℕ → Reading
+readingOf n (negsuc k) len = Done Failed
+readingOf n (pos k) len = cond (ltb (n + k) len) (soFar k n) (Done Full)
+
+-- Of a whole stream, that it is shorter than the buffer: one that fills it never passes as whole. Which bytes came, and which of the three it is, nothing can say.
 abbrev pub StreamPost : List ℕ → Stream → Type 0
-StreamPost buf (All n) = Counts n buf
+StreamPost buf (All n) = (n < length buf) × Counts n buf
 StreamPost buf Failed = Unit
 StreamPost buf Full = Unit
 

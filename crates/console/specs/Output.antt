@@ -1,4 +1,4 @@
--- The text of an answer.
+-- What a program says, and the text of an answer.
 use mathlib.Core.Path.{_≡_}
 use mathlib.Core.List.{List, [], _∷_}
 use mathlib.Core.Bool.{Bool, true, false, cond}
@@ -7,6 +7,29 @@ use lib.Dec.{ltb, eqb}
 use lib.ListN.{length, take, drop}
 use Rattle.io.specs.Counts.{Counts}
 use Rattle.io.specs.Digits.{glyph, digits, Fewest}
+use Rattle.console.specs.declared.output.Said.{Said}
+use Rattle.console.specs.declared.output.Said.the-variants.{Out, Err}
+
+-- What a program says: a text for standard output, or a message for standard error.
+pub data Saying : Type 0 where
+  out : List ℕ → Saying
+  err : List ℕ → Saying
+
+-- How many bytes it has.
+abbrev pub sizeOf : Said → ℕ
+sizeOf (Out n) = n
+sizeOf (Err n) = n
+
+-- What is said by the bytes at the front of the slice that is lent with it.
+abbrev pub sayingOf : Said → List ℕ → Saying
+sayingOf (Out n) text = out (take n text)
+sayingOf (Err n) text = err (take n text)
+
+-- This is said at the front of `after`, and the rest of the slice is as it was.
+pub record SaidPost (w : Saying) (before : List ℕ) (r : Said) (after : List ℕ) : Type 0 where
+  pub says : sayingOf r after ≡ w
+  pub rest : drop (sizeOf r) after ≡ drop (sizeOf r) before
+  pub counts : Counts (sizeOf r) after
 
 unfoldable pub allAre : ℕ → List ℕ → Bool
 allAre b [] = true

@@ -2,22 +2,21 @@
 ghost use mathlib.Core.Path.{_≡_};
 ghost use Prim.Native.Nat.{_≤_};
 ghost use Rattle.io.specs.Counts.{Counts};
-ghost use Rattle.console.specs.Input.{DigitPost, FindPost, NumberPost, BytesPost, ReadPost, StreamPost};
+ghost use Rattle.console.specs.Input.{DigitPost, FindPost, NumberPost, BytesPost, readingOf, StreamPost};
 use libc::STDERR_FILENO;
 use libc::STDIN_FILENO;
 
-// One read: how many bytes came, at least one; or the end; or the read failed.
-enum Part {
-    Bytes(usize),
-    End,
-    Failed,
-}
-
-// The whole stream, which has this many bytes; or a read failed; or the buffer is full, and there may be more.
+// A stream that was read: the whole of it, which has this many bytes; or a read failed; or the buffer is full, and there may be more.
 pub enum Stream {
     All(usize),
     Failed,
     Full,
+}
+
+// What is known after a read: this many bytes have come, and more may; or reading is done.
+pub enum Reading {
+    More(usize),
+    Done(Stream),
 }
 
 // A number, or a word that is none or does not fit.
@@ -32,34 +31,39 @@ pub enum Bytes {
     Other,
 }
 
-fn read_part(fd: i32, buf: &mut [u8]) -> Part
-    ensures { λ r. ⌜ ReadPost (now (buf .exit)) r ⌝ }
+// n bytes of a buffer of `len` have come, and one more read, into the rest of it, has answered `got`. A failed read is told apart from the end, and
+// a buffer that is full from a stream that is all there.
+pub fn after_read(n: usize, got: isize, len: usize) -> Reading
+    ensures { λ r. ⌜ r ≡ readingOf n got len ⌝ }
 {
-    let got = libc::read(fd, buf);
     if got < 0 {
-        return Part::Failed;
+        return Reading::Done(Stream::Failed);
     }
-    let n = io::count(got, &buf[..]);
-    if n == 0 {
-        return Part::End;
+    let k = got as usize;
+    if len <= n {
+        return Reading::Done(Stream::Full);
     }
-    Part::Bytes(n)
+    if len - n <= k {
+        return Reading::Done(Stream::Full);
+    }
+    if k == 0 {
+        return Reading::Done(Stream::All(n));
+    }
+    Reading::More(n + k)
 }
 
-// Reads to the end. A failed read is told apart from the end, which `io::read_full` does not do.
+// Reads to the end. What a read puts into the buffer, and that its answer is what `after_read` is given, no contract reaches: so nothing else stands here.
 pub fn read_all(fd: i32, buf: &mut [u8]) -> Stream
     ensures { λ r. ⌜ StreamPost (now (buf .exit)) r ⌝ }
 {
     let mut n: usize = 0;
-    while n < buf.len() {
-        let r = read_part(fd, &mut buf[n..]);
-        match r {
-            Part::Bytes(k) => n += k,
-            Part::End => return Stream::All(n),
-            Part::Failed => return Stream::Failed,
+    loop {
+        let got = libc::read(fd, &mut buf[n..]);
+        match after_read(n, got, buf.len()) {
+            Reading::More(m) => n = m,
+            Reading::Done(stream) => return stream,
         }
     }
-    Stream::Full
 }
 
 // The cases that a program replays: how many bytes of standard input. Where it cannot be read to its end there are none, and the program says so.

@@ -1,11 +1,20 @@
-// Making the text of an answer in a buffer, and writing it. What is written no contract can say, so each `print` function makes its text by
-// a function with a contract and hands it to `io::write_all`. A write that fails leaves the output short, which a comparison shows.
+// Making the text of an answer in a buffer, and writing it. What is written no contract can say, so `say` and each `print` function hand a text that was
+// made by a function with a contract to `io::write_all`. A write that fails leaves the output short, which `say` tells and a comparison shows.
 ghost use mathlib.Core.Path.{_≡_};
 ghost use Prim.Native.Nat.{_+_, _*_, _≤_, _<_};
 ghost use lib.ListN.{length};
 ghost use lib.Seq.{sets};
 ghost use Rattle.io.specs.Digits.{glyph as Digits·glyph};
-ghost use Rattle.console.specs.Output.{allAre, widenedOf, HexPost, SignedPost};
+ghost use Rattle.io.specs.Counts.{Counts};
+ghost use Rattle.console.specs.Output.{sizeOf, allAre, widenedOf, HexPost, SignedPost};
+use libc::STDERR_FILENO;
+use libc::STDOUT_FILENO;
+
+// What a program says, at the front of a slice that is lent with it: so many bytes for standard output, or so many of a message for standard error.
+pub enum Said {
+    Out(usize),
+    Err(usize),
+}
 
 // Whether each byte is b.
 pub fn all_are(s: &[u8], b: u8) -> bool
@@ -57,7 +66,7 @@ pub fn hex(bytes: &[u8], out: &mut [u8]) -> usize
 }
 
 // Puts a piece into `out` at a position.
-fn put(out: &mut [u8], at: usize, piece: &[u8])
+pub fn put(out: &mut [u8], at: usize, piece: &[u8])
     requires { ⌜ at + length (now piece) ≤ length (now out) ⌝ }
     ensures { λ r. ⌜ now (out .exit) ≡ sets (now (out .entry)) at (now (piece .entry)) ⌝ }
 {
@@ -83,6 +92,25 @@ pub fn signed(v: u64, out: &mut [u8]) -> usize
     out[0] = b'-';
     put(out, 1, &digits[..n]);
     n + 1
+}
+
+fn complain(message: &[u8]) {
+    io::write_all(STDERR_FILENO, message);
+}
+
+// Says it. Where standard output cannot be written, the program of this name says so on standard error. What reaches a descriptor no contract can say.
+pub fn say(program: &[u8], said: Said, text: &[u8])
+    requires { ⌜ Counts (sizeOf said) (now text) ⌝ }
+{
+    match said {
+        Said::Out(n) => {
+            if !io::write_all(STDOUT_FILENO, &text[..n]) {
+                complain(program);
+                complain(b": standard output cannot be written\n");
+            }
+        }
+        Said::Err(n) => complain(&text[..n]),
+    }
 }
 
 // The answer of each is whether all was written.
