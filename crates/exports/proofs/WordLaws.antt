@@ -4,17 +4,19 @@ use mathlib.Core.List.{List, [], _∷_, _++_, append-assoc}
 use mathlib.Core.Option.{Option, none, some}
 use Prim.Native.Nat.{ℕ, zero, suc, _+_, _*_, _<_, _≤_}
 use native.Mathlib.Omega.{arith}
-use lib.ListN.{length, take, set, getD, length-map, length-set}
+use lib.ListN.{length, take, drop, set, getD, length-map, length-set}
 use lib.Seq.{take-suc-set, length-take-le}
 use native.Mathlib.Numerals.{add-one}
+use Rattle.console.specs.Input.{hexOf, onto}
 use Rattle.console.specs.Output.{hexText, HexPost}
+use Rattle.console.proofs.InputLaws.{hex-done}
 use Rattle.exports.specs.Text.{LinePost}
 use borrow.Author.Tests.{lt-ltb, le-ltb}
 use Rattle.io.specs.Counts.{Counts}
 use Rattle.console.specs.declared.input.Bytes.{Bytes}
 use Rattle.console.specs.declared.input.Bytes.the-variants.{Count, Other}
-use Rattle.exports.specs.Words.{ahead, DecodedPost}
-use Rattle.exports.specs.Hexadecimal.{lowerOf, lowered}
+use Rattle.exports.specs.Words.{ahead, Decodes, DecodedPost}
+use Rattle.exports.specs.Hexadecimal.{lowerOf, lowered, HexDecodedPost}
 
 module _ (b : ℕ) where
   pub lower-small : b < 65 → b ≡ lowerOf b
@@ -75,13 +77,29 @@ line-ended bytes out after r p h =
       counts = (inside, sym (length-take-le (r + 1) (set after r 10) inside));
     }
 
+-- ---- a word in hexadecimal
+
+pub no-hex : {word old after : List ℕ} → length after ≡ length old → hexOf (lowered word) ≡ none → HexDecodedPost word old Other after
+no-hex same e = record { decoded = record { answer = e; free = same }; untouched = tt }
+
+pub hex-whole : (word old after : List ℕ) (i n : ℕ) → i ≡ n → length word ≤ 2 * n → n ≤ length after
+    → hexOf (lowered word) ≡ onto (take i after) (hexOf (drop (2 * i) (lowered word))) → length after ≡ length old → drop i after ≡ drop i old
+    → HexDecodedPost word old (Count n) after
+hex-whole word old after i n e short room whole same rest =
+    let d = hex-done (lowered word) old after i n e (omega (arith, lowered-length word)) room whole rest in
+    record { decoded = record { answer = (d .0, d .2); free = same }; untouched = d .1 }
+
 -- ---- for callers
 
-pub decoded-counts : (d : Option (List ℕ)) (after : List ℕ) (r : Bytes) (n : ℕ) → r ≡ Count n → DecodedPost d r after → Counts n after
-decoded-counts d after r n e p = subst (λ (x : Bytes). DecodedPost d x after) e p .1
+module _ (d : Option (List ℕ)) (old after : List ℕ) (r : Bytes) (p : DecodedPost d old r after) where
+  decoded-as : {x : Bytes} → r ≡ x → Decodes d x after
+  decoded-as e = subst (λ (x : Bytes). Decodes d x after) e (p .answer)
 
-pub decoded-some : (d : Option (List ℕ)) (after : List ℕ) (r : Bytes) (n : ℕ) → r ≡ Count n → DecodedPost d r after → d ≡ some (take n after)
-decoded-some d after r n e p = subst (λ (x : Bytes). DecodedPost d x after) e p .0
+  pub decoded-counts : (n : ℕ) → r ≡ Count n → Counts n after
+  decoded-counts n e = decoded-as e .1
 
-pub decoded-none : (d : Option (List ℕ)) (after : List ℕ) (r : Bytes) → r ≡ Other → DecodedPost d r after → d ≡ none
-decoded-none d after r e p = subst (λ (x : Bytes). DecodedPost d x after) e p
+  pub decoded-some : (n : ℕ) → r ≡ Count n → d ≡ some (take n after)
+  decoded-some n e = decoded-as e .0
+
+  pub decoded-none : r ≡ Other → d ≡ none
+  decoded-none e = decoded-as e

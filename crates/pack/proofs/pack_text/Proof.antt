@@ -26,10 +26,10 @@ enum-known-r : tie.Need-enum-known-r
 enum-known-r c = search needs
 
 array-share-prefix-out : tie.Need-array-share-prefix-out
-array-share-prefix-out c = made-counts (packingOf (length (c .before .before .before .before .before .before .before .before .large-buffer .result)) (now (c .before .before .before .before .before .before .before .before .before .before .before .args .lines))) (c .before .before .before .before .before .pack .result) (c .before .before .before .before .before .pack .last .1 .1 .0) (c .before .r .given .0 .0) (c .before .r .given .1) (c .before .before .before .before .before .pack .ensures) .0
+array-share-prefix-out c = made-counts (c .before .r .given .1) (c .before .before .before .before .before .pack .ensures) .0
 
 slice-aggregate-write-batch : tie.Need-slice-aggregate-write-batch
-slice-aggregate-write-batch c = made-counts (packingOf (length (c .before .before .before .before .before .before .before .before .before .large-buffer .result)) (now (c .before .before .before .before .before .before .before .before .before .before .before .before .args .lines))) (c .before .before .before .before .before .before .pack .result) (c .before .before .before .before .before .before .pack .last .1 .1 .0) (c .before .before .r .given .0 .0) (c .before .before .r .given .1) (c .before .before .before .before .before .before .pack .ensures) .1
+slice-aggregate-write-batch c = made-counts (c .before .before .r .given .1) (c .before .before .before .before .before .before .pack .ensures) .1
 
 write-batch-requires : tie.Need-write-batch-requires
 write-batch-requires c κs = search needs
