@@ -3,12 +3,19 @@ use mathlib.Core.Path.{_≡_}
 use mathlib.Core.List.{List, [], _∷_}
 use mathlib.Core.Bool.{Bool, true, false, cond}
 use Prim.Native.Nat.{ℕ, _+_, _-_, _/_, _%_, _^_}
+use Prim.Native.Char.{code}
+use Prim.Native.String.{String, [] as empty, _∷_ as _then_}
 use lib.Dec.{ltb, eqb}
 use lib.ListN.{length, take, drop}
 use Rattle.io.specs.Counts.{Counts}
 use Rattle.io.specs.Digits.{glyph, digits, Fewest}
 use Rattle.console.specs.declared.output.Said.{Said}
 use Rattle.console.specs.declared.output.Said.the-variants.{Out, Err}
+
+-- The bytes of a text in ASCII: the code of each character.
+abbrev pub ascii : String → List ℕ
+ascii empty = []
+ascii (character then text) = code character ∷ ascii text
 
 -- What a program says: a text for standard output, or a message for standard error.
 pub data Saying : Type 0 where
