@@ -134,9 +134,17 @@ pub chain-is : (b : List ℕ) {t : Bool} → isBatch b ≡ t → chainOf b ≡ c
 unfolding chainOf
 chain-is b e = ap (λ (t : Bool). cond t (chainFrom (length b) b 0 (wordAt b 0)) (ends 24)) e
 
--- So 65,536 cells suffice for the answers, whatever the bytes are.
+-- So no bytes have a chain of more than 65,536 records ..
+pub records-few : (b : List ℕ) → length (chainOf b .indices) ≤ 65536
+records-few b = go (isBatch b) refl
+  where
+    go : (t : Bool) → isBatch b ≡ t → length (chainOf b .indices) ≤ 65536
+    go true f = omega (arith, ap (λ (c : Chain). length (c .indices)) (chain-is b f), chain-few (length b) b 0 (wordAt b 0), batch-size b f .1)
+    go false f = omega (arith, ap (λ (c : Chain). length (c .indices)) (chain-is b f))
+
+-- .. and as many cells suffice for the answers.
 pub never-full : (b : List ℕ) (cells : ℕ) → 65536 ≤ cells → endingFor (chainOf b) cells ≡ Full → ⊥
-never-full b cells h e = go (isBatch b) refl
+never-full b cells h e = few (omega (arith, records-few b))
   where
     whole : Ending → Bool
     whole Whole = true
@@ -154,12 +162,6 @@ never-full b cells h e = go (isBatch b) refl
         ∙ ap whole
         (sym (ap (λ (t : Bool). cond t (cond (eqb (chainOf b .ending) 0) Whole (Refused (chainOf b .ending))) Full) (le-leb (length (chainOf b .indices)) cells l))
         ∙ e))
-
-    go : (t : Bool) → isBatch b ≡ t → ⊥
-    go true f =
-        few (omega (arith, ap (λ (c : Chain). length (c .indices)) (chain-is b f), chain-few (length b) b 0 (wordAt b 0), batch-size b f .1))
-    go false f =
-        few (omega (arith, ap (λ (c : Chain). length (c .indices)) (chain-is b f)))
 
 -- ---- the calls
 

@@ -6,8 +6,9 @@ use Prim.Native.Nat.{ℕ, zero, suc, _+_, _*_, _-_, _/_, _%_, _^_, _≤_, _<_}
 use native.Mathlib.Nat.{pow-suc, pow-le-pow-right}
 use native.Mathlib.Numerals.{add-one}
 use native.Mathlib.Omega.{arith}
-use lib.ListN.{length, length-append}
+use lib.ListN.{length, take, length-append}
 use borrow.Author.Tests.{lt-ltb, le-ltb}
+use Rattle.io.specs.Counts.{Counts}
 use Rattle.io.specs.Digits.{glyph, digits, Fewest}
 use Rattle.console.specs.Output.{Decimal}
 use Rattle.console.specs.Numbers.{figures, decimalText}
@@ -96,3 +97,12 @@ decimal-is n h =
 
 pub decimal-one : (n : ℕ) (t : List ℕ) → n < 10 ^ 20 → Decimal n t → t ≡ decimalText n
 decimal-one n t h d = d .figures ∙ ap (λ (k : ℕ). digits 10 k n) (fewest-one n (length t) (figures 20 n) (d .fewest) (figures-fewest 19 n h))
+
+pub decimal-short : (n : ℕ) → length (decimalText n) ≤ 20
+decimal-short n = omega (arith, digits-length (figures 20 n) n, figures-few 20 n)
+
+-- What `io::decimal` leaves in its buffer.
+pub decimal-put : (n k : ℕ) (text : List ℕ) → n < 2 ^ 64 → Counts k text → Fewest 10 1 n k → take k text ≡ digits 10 k n → take k text ≡ decimalText n
+decimal-put n k text h counts fewest e =
+    decimal-one n (take k text) (omega arith)
+    (record { figures = e ∙ ap (λ (j : ℕ). digits 10 j n) (counts .1); fewest = subst (Fewest 10 1 n) (counts .1) fewest })

@@ -1,16 +1,12 @@
 -- Laws of reading a word: digits in either case, and what stands at the front of a buffer.
-use mathlib.Core.Path.{_≡_, refl, sym, ap, _∙_, subst}
+use mathlib.Core.Path.{_≡_, refl, sym, ap, subst}
 use mathlib.Core.List.{List, [], _∷_, _++_, append-assoc}
 use mathlib.Core.Option.{Option, none, some}
 use Prim.Native.Nat.{ℕ, zero, suc, _+_, _*_, _<_, _≤_}
 use native.Mathlib.Omega.{arith}
-use lib.ListN.{length, take, drop, set, getD, length-map, length-set}
-use lib.Seq.{take-suc-set, length-take-le}
-use native.Mathlib.Numerals.{add-one}
+use lib.ListN.{length, take, drop, getD, length-map}
 use Rattle.console.specs.Input.{hexOf, onto}
-use Rattle.console.specs.Output.{hexText, HexPost}
 use Rattle.console.proofs.InputLaws.{hex-done}
-use Rattle.exports.specs.Text.{LinePost}
 use borrow.Author.Tests.{lt-ltb, le-ltb}
 use Rattle.io.specs.Counts.{Counts}
 use Rattle.console.specs.declared.input.Bytes.{Bytes}
@@ -58,24 +54,6 @@ ahead-nothing (some l) = refl
 pub ahead-twice : (a b : List ℕ) (d : Option (List ℕ)) → ahead a (ahead b d) ≡ ahead (a ++ b) d
 ahead-twice a b none = refl
 ahead-twice a b (some l) = ap some (sym (append-assoc a b l))
-
--- ---- a line of hexadecimal
-
-hex-length : (l : List ℕ) → length (hexText l) ≡ 2 * length l
-unfolding hexText
-hex-length [] = refl
-hex-length (b ∷ l) = let e : length (hexText l) ≡ 2 * length l = hex-length l in omega arith
-
-pub hex-size : (bytes out after : List ℕ) (r : ℕ) → HexPost bytes out r after → r ≡ 2 * length bytes
-hex-size bytes out after r p = p .counts .1 ∙ ap (λ (l : List ℕ). length l) (p .text) ∙ hex-length bytes
-
-pub line-ended : (bytes out after : List ℕ) (r : ℕ) → HexPost bytes out r after → r < length after → LinePost bytes (r + 1) (set after r 10)
-line-ended bytes out after r p h =
-    let inside : r + 1 ≤ length (set after r 10) = omega (arith, length-set after r 10) in
-    record {
-      text = ap (λ (k : ℕ). take k (set after r 10)) (add-one r) ∙ take-suc-set after r 10 h ∙ ap (λ (l : List ℕ). l ++ 10 ∷ []) (p .text);
-      counts = (inside, sym (length-take-le (r + 1) (set after r 10) inside));
-    }
 
 -- ---- a word in hexadecimal
 

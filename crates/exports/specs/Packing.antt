@@ -73,10 +73,13 @@ packedBy finished n = Batch n
 packedBy (bad line) n = BadLine line
 packedBy (long line) n = TooLong line
 
+abbrev pub packedOf : Packing → Packed
+packedOf x = packedBy (x .stop) (length (packed (x .states)))
+
 -- The batch of the states stands at the front of `out`, also where a line is refused, and the bytes past it are untouched. What is free is named in `free`:
 -- `spare` holds anything, as many bytes as it had.
 pub record PackedPost (x : Packing) (spare out : List ℕ) (r : Packed) (left now : List ℕ) : Type 0 where
-  pub answer : r ≡ packedBy (x .stop) (length (packed (x .states)))
+  pub answer : r ≡ packedOf x
   pub output : now ≡ sets out 0 (packed (x .states))
   pub inside : length (packed (x .states)) ≤ length out
   pub free : length left ≡ length spare
