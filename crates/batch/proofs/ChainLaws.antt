@@ -1,12 +1,12 @@
 -- Walking the chain of a batch: the walk so far is a run over the states so far, and what is left of the chain completes them. One law for the start,
 -- one for a turn, and one for each way that the walk ends.
 use Prim.Native.Nat.{ℕ, zero, suc, _+_, _-_, _*_, _^_, _<_, _≤_}
-use mathlib.Core.Path.{_≡_, refl, sym, ap, _∙_, subst}
-use mathlib.Core.List.{List, [], _∷_, _++_, append-assoc, append-nil}
+use mathlib.Core.Path.{_≡_, refl, sym, ap, ap₂, _∙_, subst}
+use mathlib.Core.List.{List, [], _∷_, _++_, append-assoc, append-nil, map, map-append}
 use mathlib.Core.Bool.{Bool, true, false, cond, _&&_, true≢false}
 use native.Mathlib.Omega.{arith}
 use lib.Dec.{ltb, leb, eqb}
-use lib.ListN.{length, getD, take, drop, set, length-set, length-append}
+use lib.ListN.{length, getD, take, drop, set, length-set, length-append, length-map}
 use lib.Seq.{take-suc-set, drop-set-lt, drop-drop, take-all, take-at, length-take-le}
 use borrow.Author.Tests.{leb-true, leb-false, ltb-true, lt-ltb, le-leb, lt-leb, eq-eqb, ne-eqb}
 use Rattle.wire.proofs.BoolLaws.{both-true}
@@ -17,7 +17,7 @@ use Rattle.rollup.specs.Adding.{Free, AddPost}
 use Rattle.rollup.specs.Calls.{Call, added, begun, adding, Run, Unmoved}
 use Rattle.batch.specs.declared.records.Ending.{Ending}
 use Rattle.batch.specs.declared.records.Ending.the-variants.{Whole, Refused, Full}
-use Rattle.batch.specs.Chain.{wordAt, nextAt, lengthAt, stateAt, isRecord, Chain, ends, onto, chainFrom, isBatch, chainOf}
+use Rattle.batch.specs.Chain.{wordAt, nextAt, lengthAt, stateAt, isRecord, Chain, ends, onto, chainFrom, isBatch, chainOf, statesOf}
 use Rattle.batch.specs.Batch.{addedAll, endingFor, statesFor, RolledPost}
 
 -- ---- records
@@ -88,7 +88,7 @@ pub chain-end : (n : ℕ) (b : List ℕ) (before i : ℕ) → i ≡ 0 → chainF
 unfolding chainFrom
 chain-end zero b before i e = refl
 chain-end (suc n) b before i e =
-    ap (λ (t : Bool). cond t (ends 0) (cond (isRecord b before i) (onto (stateAt b i) (chainFrom n b i (nextAt b i))) (ends 25))) (eq-eqb i 0 e)
+    ap (λ (t : Bool). cond t (ends 0) (cond (isRecord b before i) (onto i (chainFrom n b i (nextAt b i))) (ends 25))) (eq-eqb i 0 e)
 
 -- Where the bound is large enough.
 module _ (b : List ℕ) (before i : ℕ) (within : before < length b) (index : i ≡ 0 → ⊥) where
@@ -96,20 +96,20 @@ module _ (b : List ℕ) (before i : ℕ) (within : before < length b) (index : i
   unfolding chainFrom
   chain-bad zero h e = absurd (let z : ⊥ = omega arith in z)
   chain-bad (suc n) h e =
-      let next = onto (stateAt b i) (chainFrom n b i (nextAt b i)) in
+      let next = onto i (chainFrom n b i (nextAt b i)) in
       ap (λ (t : Bool). cond t (ends 0) (cond (isRecord b before i) next (ends 25))) (ne-eqb i 0 index)
       ∙ ap (λ (t : Bool). cond t next (ends 25)) e
 
   pub record Next (n : ℕ) : Type 0 where
     pub fewer : ℕ
     pub less : n ≡ suc fewer
-    pub same : chainFrom n b before i ≡ onto (stateAt b i) (chainFrom fewer b i (nextAt b i))
+    pub same : chainFrom n b before i ≡ onto i (chainFrom fewer b i (nextAt b i))
 
   pub chain-next : (n : ℕ) → length b ≤ before + n → isRecord b before i ≡ true → Next n
   unfolding chainFrom
   chain-next zero h e = absurd (let z : ⊥ = omega arith in z)
   chain-next (suc n) h e =
-      let next = onto (stateAt b i) (chainFrom n b i (nextAt b i)) in
+      let next = onto i (chainFrom n b i (nextAt b i)) in
       record {
         fewer = n;
         less = refl;
@@ -119,13 +119,13 @@ module _ (b : List ℕ) (before i : ℕ) (within : before < length b) (index : i
       }
 
 -- A chain has no more records than its bound.
-chain-few : (n : ℕ) (b : List ℕ) (before i : ℕ) → length (chainFrom n b before i .states) ≤ n
+chain-few : (n : ℕ) (b : List ℕ) (before i : ℕ) → length (chainFrom n b before i .indices) ≤ n
 unfolding chainFrom
 chain-few zero b before i = omega arith
 chain-few (suc n) b before i = go (eqb i 0) (isRecord b before i) (chain-few n b i (nextAt b i))
   where
-    go : (x y : Bool) → length (chainFrom n b i (nextAt b i) .states) ≤ n
-        → length (cond x (ends 0) (cond y (onto (stateAt b i) (chainFrom n b i (nextAt b i))) (ends 25)) .states) ≤ suc n
+    go : (x y : Bool) → length (chainFrom n b i (nextAt b i) .indices) ≤ n
+        → length (cond x (ends 0) (cond y (onto i (chainFrom n b i (nextAt b i))) (ends 25)) .indices) ≤ suc n
     go true y h = omega arith
     go false false h = omega arith
     go false true h = omega arith
@@ -134,9 +134,17 @@ pub chain-is : (b : List ℕ) {t : Bool} → isBatch b ≡ t → chainOf b ≡ c
 unfolding chainOf
 chain-is b e = ap (λ (t : Bool). cond t (chainFrom (length b) b 0 (wordAt b 0)) (ends 24)) e
 
--- So 65,536 cells suffice for the answers, whatever the bytes are.
+-- So no bytes have a chain of more than 65,536 records ..
+pub records-few : (b : List ℕ) → length (chainOf b .indices) ≤ 65536
+records-few b = go (isBatch b) refl
+  where
+    go : (t : Bool) → isBatch b ≡ t → length (chainOf b .indices) ≤ 65536
+    go true f = omega (arith, ap (λ (c : Chain). length (c .indices)) (chain-is b f), chain-few (length b) b 0 (wordAt b 0), batch-size b f .1)
+    go false f = omega (arith, ap (λ (c : Chain). length (c .indices)) (chain-is b f))
+
+-- .. and as many cells suffice for the answers.
 pub never-full : (b : List ℕ) (cells : ℕ) → 65536 ≤ cells → endingFor (chainOf b) cells ≡ Full → ⊥
-never-full b cells h e = go (isBatch b) refl
+never-full b cells h e = few (omega (arith, records-few b))
   where
     whole : Ending → Bool
     whole Whole = true
@@ -147,19 +155,13 @@ never-full b cells h e = go (isBatch b) refl
     other true n = refl
     other false n = refl
 
-    few : length (chainOf b .states) ≤ cells → ⊥
+    few : length (chainOf b .indices) ≤ cells → ⊥
     few l =
         true≢false
         (sym (other (eqb (chainOf b .ending) 0) (chainOf b .ending))
         ∙ ap whole
-        (sym (ap (λ (t : Bool). cond t (cond (eqb (chainOf b .ending) 0) Whole (Refused (chainOf b .ending))) Full) (le-leb (length (chainOf b .states)) cells l))
+        (sym (ap (λ (t : Bool). cond t (cond (eqb (chainOf b .ending) 0) Whole (Refused (chainOf b .ending))) Full) (le-leb (length (chainOf b .indices)) cells l))
         ∙ e))
-
-    go : (t : Bool) → isBatch b ≡ t → ⊥
-    go true f =
-        few (omega (arith, ap (λ (c : Chain). length (c .states)) (chain-is b f), chain-few (length b) b 0 (wordAt b 0), batch-size b f .1))
-    go false f =
-        few (omega (arith, ap (λ (c : Chain). length (c .states)) (chain-is b f)))
 
 -- ---- the calls
 
@@ -192,13 +194,18 @@ added-unmoved room (s ∷ states) (n ∷ answers) calls u = added-unmoved room s
 
 -- ---- the walk
 
--- Where it is: k states are done, and with what is left they are the chain's.
-pub record Walk (batch : List ℕ) (before at k : ℕ) (done : List (List ℕ)) : Type 0 where
+-- A store to the first of the cells that are as they were leaves those behind it so.
+pub untouched-next : (cells old : List ℕ) (k v : ℕ) → drop k cells ≡ drop k old → drop (k + 1) (set cells k v) ≡ drop (k + 1) old
+untouched-next cells old k v e =
+    drop-set-lt (k + 1) cells k v (omega arith) ∙ sym (drop-drop 1 k cells) ∙ ap (λ (l : List ℕ). drop 1 l) e ∙ drop-drop 1 k old
+
+-- Where it is: k records are done, and with what is left they are the chain's.
+pub record Walk (batch : List ℕ) (before at k : ℕ) (done : List ℕ) : Type 0 where
   pub left : ℕ
   pub enough : length batch ≤ before + left
   pub within : before < length batch
   pub early : k ≤ before
-  pub states : chainOf batch .states ≡ done ++ chainFrom left batch before at .states
+  pub indices : chainOf batch .indices ≡ done ++ chainFrom left batch before at .indices
   pub ending : chainOf batch .ending ≡ chainFrom left batch before at .ending
 
 pub walk-start : (batch : List ℕ) (at : ℕ) → isBatch batch ≡ true → at ≡ wordAt batch 0 → Walk batch 0 at 0 []
@@ -209,14 +216,14 @@ walk-start batch at ok e =
       enough = omega arith;
       within = omega (arith, batch-size batch ok .0);
       early = omega arith;
-      states = ap (λ (c : Chain). c .states) whole;
+      indices = ap (λ (c : Chain). c .indices) whole;
       ending = ap (λ (c : Chain). c .ending) whole;
     }
 
-module _ {batch : List ℕ} {before at k : ℕ} {done : List (List ℕ)} (w : Walk batch before at k done) where
-  -- Where the chain ends, the states that are done are all of its states.
-  pub walk-all : (n : ℕ) → chainFrom (w .left) batch before at ≡ ends n → chainOf batch .states ≡ done
-  walk-all n e = w .states ∙ ap (λ (c : Chain). done ++ c .states) e ∙ append-nil done
+module _ {batch : List ℕ} {before at k : ℕ} {done : List ℕ} (w : Walk batch before at k done) where
+  -- Where the chain ends, the records that are done are all of its records.
+  pub walk-all : (n : ℕ) → chainFrom (w .left) batch before at ≡ ends n → chainOf batch .indices ≡ done
+  walk-all n e = w .indices ∙ ap (λ (c : Chain). done ++ c .indices) e ∙ append-nil done
 
   pub walk-ending : (n : ℕ) → chainFrom (w .left) batch before at ≡ ends n → chainOf batch .ending ≡ n
   walk-ending n e = w .ending ∙ ap (λ (c : Chain). c .ending) e
@@ -229,10 +236,10 @@ module _ {batch : List ℕ} {before at k : ℕ} {done : List (List ℕ)} (w : Wa
       pub walk-step : Next batch before at (w .within) index (w .left)
       walk-step = chain-next batch before at (w .within) index (w .left) (w .enough) ok
 
-      pub walk-more : chainOf batch .states ≡ done ++ stateAt batch at ∷ chainFrom (walk-step .fewer) batch at (nextAt batch at) .states
-      walk-more = w .states ∙ ap (λ (c : Chain). done ++ c .states) (walk-step .same)
+      pub walk-more : chainOf batch .indices ≡ done ++ at ∷ chainFrom (walk-step .fewer) batch at (nextAt batch at) .indices
+      walk-more = w .indices ∙ ap (λ (c : Chain). done ++ c .indices) (walk-step .same)
 
-      pub walk-turn : (next : ℕ) → next ≡ nextAt batch at → Walk batch at next (k + 1) (done ++ stateAt batch at ∷ [])
+      pub walk-turn : (next : ℕ) → next ≡ nextAt batch at → Walk batch at next (k + 1) (done ++ at ∷ [])
       walk-turn next e =
           let fewer = walk-step .fewer in
           let i = record-inside batch before at ok in
@@ -241,23 +248,23 @@ module _ {batch : List ℕ} {before at k : ℕ} {done : List (List ℕ)} (w : Wa
             enough = omega (arith, w .enough, walk-step .less, i .above);
             within = omega (arith, i .inside);
             early = omega (arith, w .early, i .above);
-            states =
+            indices =
                 walk-more
-                ∙ sym (append-assoc done (stateAt batch at ∷ []) (chainFrom fewer batch at (nextAt batch at) .states))
-                ∙ ap (λ (x : ℕ). (done ++ stateAt batch at ∷ []) ++ chainFrom fewer batch at x .states) (sym e);
+                ∙ sym (append-assoc done (at ∷ []) (chainFrom fewer batch at (nextAt batch at) .indices))
+                ∙ ap (λ (x : ℕ). (done ++ at ∷ []) ++ chainFrom fewer batch at x .indices) (sym e);
             ending = w .ending ∙ ap (λ (c : Chain). c .ending) (walk-step .same) ∙ ap (λ (x : ℕ). chainFrom fewer batch at x .ending) (sym e);
           }
 
 -- ---- the walk that adds each state
 
 pub record Going (batch : List ℕ) (first : Mem) (room before at k : ℕ) (a : Accumulator) (m : Mem) (old answers : List ℕ) : Type 0 where
-  pub done : List (List ℕ)
+  pub done : List ℕ
   pub walk : Walk batch before at k done
   pub count : length done ≡ k
   pub few : k ≤ length old
   pub long : length answers ≡ length old
   pub untouched : drop k answers ≡ drop k old
-  pub run : Run first (addedAll room done (take k answers) []) a m
+  pub run : Run first (addedAll room (map (stateAt batch) done) (take k answers) []) a m
   pub free : Free first m
 
 pub same-cells : (m : Mem) → Free m m
@@ -284,14 +291,15 @@ module _ (batch : List ℕ) (first : Mem) (room before at k : ℕ) (a : Accumula
       → RolledPost batch first room (record { head = a; records = k; ending = end }) m old answers
   finished n end e f =
       let all = walk-all (g .walk) n e in
-      let some : length (chainOf batch .states) ≤ length old = omega (arith, ap length all, g .count, g .few) in
-      let front : statesFor batch (length old) ≡ g .done = take-all (length old) (chainOf batch .states) some ∙ all in
+      let some : length (chainOf batch .indices) ≤ length old = omega (arith, ap length all, g .count, g .few) in
+      let front : statesFor batch (length old) ≡ map (stateAt batch) (g .done) =
+      take-all (length old) (statesOf batch) (omega (arith, length-map (chainOf batch .indices) (stateAt batch))) ∙ ap (map (stateAt batch)) all in
       record {
-        records = sym (ap length front ∙ g .count);
+        records = sym (ap (λ (l : List (List ℕ)). length l) front ∙ length-map (g .done) (stateAt batch) ∙ g .count);
         ending =
             sym
             (ap (λ (t : Bool). cond t (cond (eqb (chainOf batch .ending) 0) Whole (Refused (chainOf batch .ending))) Full)
-            (le-leb (length (chainOf batch .states)) (length old) some)
+            (le-leb (length (chainOf batch .indices)) (length old) some)
             ∙ ap (λ (x : ℕ). cond (eqb x 0) Whole (Refused x)) (walk-ending (g .walk) n e)
             ∙ f);
         run = subst (λ (l : List (List ℕ)). Run first (addedAll room l (take k answers) []) a m) (sym front) (g .run);
@@ -310,15 +318,17 @@ module _ (batch : List ℕ) (first : Mem) (room before at k : ℕ) (a : Accumula
       pub stop-full : k ≡ length old → RolledPost batch first room (record { head = a; records = k; ending = Full }) m old answers
       stop-full e =
           let whole = walk-more (g .walk) index ok in
-          let rest = stateAt batch at ∷ chainFrom (walk-step (g .walk) index ok .fewer) batch at (nextAt batch at) .states in
-          let many : length old < length (chainOf batch .states) = omega (arith, ap length whole, length-append (g .done) rest, g .count) in
-          let front : statesFor batch (length old) ≡ g .done = ap (λ (l : List (List ℕ)). take (length old) l) whole ∙ take-at (g .done) rest (length old) (g .count ∙ e) in
+          let rest = at ∷ chainFrom (walk-step (g .walk) index ok .fewer) batch at (nextAt batch at) .indices in
+          let many : length old < length (chainOf batch .indices) = omega (arith, ap length whole, length-append (g .done) rest, g .count) in
+          let front : statesFor batch (length old) ≡ map (stateAt batch) (g .done) =
+          ap (λ (l : List (List ℕ)). take (length old) l) (ap (map (stateAt batch)) whole ∙ map-append (stateAt batch) (g .done) rest)
+          ∙ take-at (map (stateAt batch) (g .done)) (map (stateAt batch) rest) (length old) (length-map (g .done) (stateAt batch) ∙ g .count ∙ e) in
           record {
-            records = sym (ap length front ∙ g .count);
+            records = sym (ap (λ (l : List (List ℕ)). length l) front ∙ length-map (g .done) (stateAt batch) ∙ g .count);
             ending =
                 sym
                 (ap (λ (t : Bool). cond t (cond (eqb (chainOf batch .ending) 0) Whole (Refused (chainOf batch .ending))) Full)
-                (lt-leb (length (chainOf batch .states)) (length old) many));
+                (lt-leb (length (chainOf batch .indices)) (length old) many));
             run = subst (λ (l : List (List ℕ)). Run first (addedAll room l (take k answers) []) a m) (sym front) (g .run);
             untouched = g .untouched;
             free = g .free;
@@ -330,21 +340,18 @@ module _ (batch : List ℕ) (first : Mem) (room before at k : ℕ) (a : Accumula
           let put : take (k + 1) (set answers k (r .answer)) ≡ take k answers ++ r .answer ∷ [] =
           ap (λ (i : ℕ). take i (set answers k (r .answer))) (let z : k + 1 ≡ suc k = omega arith in z)
           ∙ take-suc-set answers k (r .answer) (omega (arith, g .long)) in
-          let calls : addedAll room (g .done ++ stateAt batch at ∷ []) (take (k + 1) (set answers k (r .answer))) [] ≡ added room s (r .answer) ∷ addedAll room (g .done) (take k answers) [] =
-          ap (λ (l : List ℕ). addedAll room (g .done ++ stateAt batch at ∷ []) l []) put
-          ∙ added-last room (g .done) (take k answers) (stateAt batch at) (r .answer) [] (g .count ∙ sym (length-take-le k answers (omega (arith, g .long))))
-          ∙ ap (λ (l : List ℕ). added room l (r .answer) ∷ addedAll room (g .done) (take k answers) []) (sym f) in
+          let done = map (stateAt batch) (g .done) in
+          let calls : addedAll room (map (stateAt batch) (g .done ++ at ∷ [])) (take (k + 1) (set answers k (r .answer))) [] ≡ added room s (r .answer) ∷ addedAll room done (take k answers) [] =
+          ap₂ (λ (states : List (List ℕ)) (l : List ℕ). addedAll room states l []) (map-append (stateAt batch) (g .done) (at ∷ [])) put
+          ∙ added-last room done (take k answers) (stateAt batch at) (r .answer) [] (length-map (g .done) (stateAt batch) ∙ g .count ∙ sym (length-take-le k answers (omega (arith, g .long))))
+          ∙ ap (λ (l : List ℕ). added room l (r .answer) ∷ addedAll room done (take k answers) []) (sym f) in
           record {
-            done = g .done ++ stateAt batch at ∷ [];
+            done = g .done ++ at ∷ [];
             walk = walk-turn (g .walk) index ok next e;
-            count = length-append (g .done) (stateAt batch at ∷ []) ∙ ap (λ (x : ℕ). x + 1) (g .count);
+            count = length-append (g .done) (at ∷ []) ∙ ap (λ (x : ℕ). x + 1) (g .count);
             few = omega arith;
             long = length-set answers k (r .answer) ∙ g .long;
-            untouched =
-                drop-set-lt (k + 1) answers k (r .answer) (omega arith)
-                ∙ sym (drop-drop 1 k answers)
-                ∙ ap (λ (l : List ℕ). drop 1 l) (g .untouched)
-                ∙ drop-drop 1 k old;
+            untouched = untouched-next answers old k (r .answer) (g .untouched);
             run = subst (λ (c : List Call). Run first c (r .head) n) (sym calls) (adding room s r n (g .run) post);
             free =
                 record {
@@ -360,7 +367,7 @@ pub no-batch : (batch : List ℕ) (m : Mem) (room : ℕ) (a : Accumulator) (old 
 unfolding addedAll
 no-batch batch m room a old answers e f same =
     let whole = chain-is batch e in
-    let none : statesFor batch (length old) ≡ [] = ap (λ (c : Chain). take (length old) (c .states)) whole ∙ take-none (length old) in
+    let none : statesFor batch (length old) ≡ [] = ap (λ (c : Chain). take (length old) (map (stateAt batch) (c .indices))) whole ∙ take-none (length old) in
     record {
       records = sym (ap length none);
       ending = sym (ap (λ (c : Chain). endingFor c (length old)) whole ∙ ap (λ (t : Bool). cond t (Refused 24) Full) (le-leb 0 (length old) (omega arith)));

@@ -25,7 +25,7 @@ use Rattle.rollup.proofs.AgreementLaws.{list-row, registers-list, registers-den
 use Rattle.batch.specs.declared.closing.Count.{Count}
 use Rattle.batch.specs.declared.closing.Count.the-variants.{Registers, Short}
 use Rattle.batch.specs.declared.closing.Report.{Report}
-use Rattle.batch.specs.Chain.{chainOf}
+use Rattle.batch.specs.Chain.{statesOf}
 use Rattle.batch.specs.Batch.{addedAll, statesFor}
 use Rattle.batch.specs.Closing.{countFor, ListCountPre, ReportPost, NeverShort}
 use Rattle.batch.proofs.ChainLaws.{added-unmoved}
@@ -83,7 +83,7 @@ module _ (a : Accumulator) (m : Mem) (space : ℕ) where
 -- What a report says of the memory that was lent: no more records than cells, and no more bytes written than the output has.
 pub few-records : {batch : List ℕ} {first : Mem} {room : ℕ} {old : List ℕ} {space : ℕ} {out : List ℕ} {r : Report} {m : Mem} {answers after : List ℕ}
     → ReportPost batch first room old space out r m answers after → r .rolled .records ≤ length old
-few-records {batch} {old = old} p = omega (arith, p .rolled .records, length-take (length old) (chainOf batch .states))
+few-records {batch} {old = old} p = omega (arith, p .rolled .records, length-take (length old) (statesOf batch))
 
 pub written-inside : {batch : List ℕ} {first : Mem} {room : ℕ} {old : List ℕ} {space : ℕ} {out : List ℕ} {r : Report} {m : Mem} {answers after : List ℕ}
     → ReportPost batch first room old space out r m answers after → r .written .len ≤ length after

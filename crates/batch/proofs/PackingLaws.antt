@@ -1,7 +1,7 @@
 -- A batch made of states: what appending a record leaves is the batch of one more state, and walking a batch so made finds its states in order.
 use Prim.Native.Nat.{ℕ, suc, _+_, _-_, _*_, _/_, _%_, _^_, _<_, _≤_}
 use mathlib.Core.Path.{_≡_, refl, sym, ap, ap₂, _∙_, subst}
-use mathlib.Core.List.{List, [], _∷_, _++_, append-assoc, append-nil}
+use mathlib.Core.List.{List, [], _∷_, _++_, append-assoc, append-nil, map}
 use mathlib.Core.Bool.{Bool, true, _&&_}
 use native.Mathlib.Omega.{arith}
 use lib.Dec.{ltb, leb}
@@ -10,7 +10,7 @@ use lib.Seq.{sets, sets-eq, length-sets, take-at, drop-at, getD-drop, drop-drop}
 use borrow.Author.Tests.{le-leb, lt-ltb}
 use Rattle.wire.specs.Varints.{PutPost}
 use Rattle.wire.proofs.EncodingLaws.{Three, three}
-use Rattle.batch.specs.Chain.{wordAt, nextAt, lengthAt, stateAt, isRecord, onto, chainFrom, isBatch, chainOf}
+use Rattle.batch.specs.Chain.{wordAt, nextAt, lengthAt, stateAt, isRecord, Chain, onto, chainFrom, isBatch, chainOf}
 use Rattle.batch.specs.Packing.{wordBytes, recordBytes, indexOf, recordsAt, packed, RecordPost}
 use Rattle.batch.proofs.ChainLaws.{chain-end, chain-next, chain-is}
 
@@ -114,11 +114,16 @@ record-yes b before i low above inside =
     ∙ ap (λ (t : Bool). t && leb (i + 8 + lengthAt b i) (length b)) (lt-ltb before i above)
     ∙ le-leb (i + 8 + lengthAt b i) (length b) inside
 
+-- A chain of the batch b that has these states, and ends with 0.
+pub record Finds (b : List ℕ) (c : Chain) (states : List (List ℕ)) : Type 0 where
+  pub found : map (stateAt b) (c .indices) ≡ states
+  pub ending : c .ending ≡ 0
+
 -- From a record on, the chain has the states whose records stand there.
 walks : (states : List (List ℕ)) (b : List ℕ) (n before e : ℕ) → length b ≤ 65536 → 4 ≤ e → before < e → e ≤ length b → length b ≤ before + n
-    → drop e b ≡ recordsAt e states → chainFrom n b before (indexOf e states) ≡ record { states = states; ending = 0 }
+    → drop e b ≡ recordsAt e states → Finds b (chainFrom n b before (indexOf e states)) states
 unfolding recordsAt
-walks [] b n before e short low above inside bound at-e = chain-end n b before 0 refl
+walks [] b n before e short low above inside bound at-e = subst (λ (c : Chain). Finds b c []) (sym (chain-end n b before 0 refl)) (record { found = refl; ending = refl })
 walks (s ∷ states) b n before e short low above inside bound at-e =
     let past = e + 8 + length s in
     let next = indexOf past states in
@@ -134,21 +139,24 @@ walks (s ∷ states) b n before e short low above inside bound at-e =
     let index : (e ≡ 0 → ⊥) = λ (z : e ≡ 0). let y : ⊥ = omega arith in y in
     let step = chain-next b before e first index n bound ok in
     let less : n ≡ suc (step .fewer) = step .less in
-    step .same
-    ∙ ap₂ (λ (x : List ℕ) (k : ℕ). onto x (chainFrom (step .fewer) b e k)) (state-is b e next s rest at-e small) (next-is b e next s rest at-e next-small)
-    ∙ ap (onto s) (walks states b (step .fewer) e past short (omega arith) (omega arith) in-b (omega arith) (rest-there b e next s rest at-e))
+    let others = walks states b (step .fewer) e past short (omega arith) (omega arith) in-b (omega arith) (rest-there b e next s rest at-e) in
+    subst (λ (c : Chain). Finds b c (s ∷ states))
+    (sym (step .same ∙ ap (λ (k : ℕ). onto e (chainFrom (step .fewer) b e k)) (next-is b e next s rest at-e next-small)))
+    (record { found = ap₂ (λ (x : List ℕ) (l : List (List ℕ)). x ∷ l) (state-is b e next s rest at-e small) (others .found); ending = others .ending })
 
 -- Packing and walking agree: the chain of a batch made of states has these states, in order, and ends with 0.
-pub packed-chain : (states : List (List ℕ)) → length (packed states) ≤ 65536 → chainOf (packed states) ≡ record { states = states; ending = 0 }
+pub packed-chain : (states : List (List ℕ)) → length (packed states) ≤ 65536 → Finds (packed states) (chainOf (packed states)) states
 unfolding packed
 packed-chain states short =
     let b = wordBytes (indexOf 4 states) ++ recordsAt 4 states in
     let size : length b ≡ 4 + length (recordsAt 4 states) = length-append (wordBytes (indexOf 4 states)) (recordsAt 4 states) ∙ ap (λ (k : ℕ). k + length (recordsAt 4 states)) (word-length (indexOf 4 states)) in
     let four-up : 4 ≤ length b = omega arith in
     let ok : isBatch b ≡ true = ap (λ (t : Bool). t && leb (length b) 65536) (le-leb 4 (length b) four-up) ∙ le-leb (length b) 65536 short in
-    chain-is b ok
-    ∙ ap (λ (i : ℕ). chainFrom (length b) b 0 i) (word-front (indexOf 4 states) (recordsAt 4 states) (omega (arith, index-low 4 states)))
-    ∙ walks states b (length b) 0 4 short (omega arith) (omega arith) four-up (omega arith) (drop-at (wordBytes (indexOf 4 states)) (recordsAt 4 states) 4 (word-length (indexOf 4 states)))
+    subst (λ (c : Chain). Finds b c states)
+    (sym
+    (chain-is b ok
+    ∙ ap (λ (i : ℕ). chainFrom (length b) b 0 i) (word-front (indexOf 4 states) (recordsAt 4 states) (omega (arith, index-low 4 states)))))
+    (walks states b (length b) 0 4 short (omega arith) (omega arith) four-up (omega arith) (drop-at (wordBytes (indexOf 4 states)) (recordsAt 4 states) 4 (word-length (indexOf 4 states))))
 
 -- ---- appending
 

@@ -11,7 +11,7 @@ use Rattle.rollup.specs.Calls.{Call, added, Run}
 use Rattle.batch.specs.declared.records.Ending.{Ending}
 use Rattle.batch.specs.declared.records.Ending.the-variants.{Whole, Refused, Full}
 use Rattle.batch.specs.declared.records.Rolled.{Rolled}
-use Rattle.batch.specs.Chain.{Chain, chainOf}
+use Rattle.batch.specs.Chain.{Chain, chainOf, statesOf}
 
 -- The calls that add these states, with `room` cells of `scratch` each, and get these answers, after others. The latest stands first.
 unfoldable pub addedAll : ℕ → List (List ℕ) → List ℕ → List Call → List Call
@@ -21,11 +21,11 @@ addedAll room (s ∷ states) (n ∷ answers) calls = addedAll room states answer
 
 -- How a chain ends for a caller that lends `cells` cells for the answers, one a record: `Full` where it has more records than that.
 abbrev pub endingFor : Chain → ℕ → Ending
-endingFor c cells = cond (leb (length (c .states)) cells) (cond (eqb (c .ending) 0) Whole (Refused (c .ending))) Full
+endingFor c cells = cond (leb (length (c .indices)) cells) (cond (eqb (c .ending) 0) Whole (Refused (c .ending))) Full
 
 -- The states that have a cell, in order.
 abbrev pub statesFor : List ℕ → ℕ → List (List ℕ)
-statesFor batch cells = take cells (chainOf batch .states)
+statesFor batch cells = take cells (statesOf batch)
 
 -- From a fresh head and the memory as it was lent, each state was added in order, and its answer put into its cell. `old` is what the cells for the
 -- answers held: those past the records are untouched. What is free is named in `free`.

@@ -15,7 +15,7 @@ pub struct Walked {
 
 fn walk_records(batch: &[u8], indices: &mut [u32]) -> Walked
     requires { ⌜ (isBatch (now batch) ≡ true) × (65536 ≤ length (now indices)) ⌝ }
-    ensures { λ r. ⌜ WalkedPost (now (batch .entry)) r (now (indices .exit)) ⌝ }
+    ensures { λ r. ⌜ WalkedPost (now (batch .entry)) (now (indices .entry)) r (now (indices .exit)) ⌝ }
 {
     let mut before: usize = 0;
     let mut at = records::word_at(batch, 0);
@@ -41,7 +41,7 @@ fn walk_records(batch: &[u8], indices: &mut [u32]) -> Walked
 // Puts the index of each record into its cell, in the order of the chain. A batch has fewer records than bytes.
 pub fn walk(batch: &[u8], indices: &mut [u32]) -> Walked
     requires { ⌜ 65536 ≤ length (now indices) ⌝ }
-    ensures { λ r. ⌜ WalkedPost (now (batch .entry)) r (now (indices .exit)) ⌝ }
+    ensures { λ r. ⌜ WalkedPost (now (batch .entry)) (now (indices .entry)) r (now (indices .exit)) ⌝ }
 {
     if !records::is_batch(batch) {
         return Walked {

@@ -3,3 +3,4 @@ pub mod InputLaws
 pub mod OutputLaws
 pub mod RoundTrip
 pub mod TextLaws
+pub mod NumberLaws

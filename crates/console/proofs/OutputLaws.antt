@@ -5,17 +5,38 @@ use mathlib.Core.Bool.{Bool, true, false}
 use Prim.Native.Nat.{ℕ, _+_, _*_, _-_, _/_, _%_, _^_, _<_, _≤_}
 use native.Mathlib.Numerals.{add-one}
 use native.Mathlib.Omega.{arith}
-use lib.ListN.{length, set, drop, take, getD, drop-of-length-le, length-append, length-set}
-use lib.Seq.{drop-cons, drop-drop, take-suc-set, drop-set-lt, sets, sets-eq, length-sets, take-at, drop-at, length-take-le}
+use lib.ListN.{length, set, drop, take, getD, drop-of-length-le, length-append, length-drop, length-set, take-append-drop}
+use lib.Seq.{drop-cons, drop-drop, take-suc-set, drop-set-lt, sets, sets-eq, length-sets, take-at, drop-at, drop-append-le, length-take-le}
 use mathlib.Core.Logic.{⊎-elim}
 use native.Mathlib.Nat.{pow-le-pow-right}
 use borrow.Author.Tests.{lt-ltb, le-ltb, eq-eqb, ne-eqb}
+use borrow.Rule.Slice.PartMut.{midOf, postOf, putMid}
 use Rattle.io.specs.Digits.{glyph, digits, Fewest}
 use Rattle.io.specs.Counts.{Counts}
 use Rattle.console.proofs.InputLaws.{side}
 use Rattle.console.specs.declared.output.Said.{Said}
 use Rattle.console.specs.declared.output.Said.the-variants.{Out, Err}
 use Rattle.console.specs.Output.{out as Saying·out, err as Saying·err, sizeOf, SaidPost, allAre, hexText, HexPost, Decimal, SignedBy, SignedPost}
+
+-- ---- a part of a buffer
+
+-- What was put at the front of a lent part of the buffer was put into the buffer at the place where the part begins.
+pub part-put : (out y s : List ℕ) (at m : ℕ) → at + m ≤ length out → length s ≤ m → take (length s) y ≡ s → drop (length s) y ≡ drop (length s) (midOf at m out)
+    → putMid at m out y ≡ sets out at s
+part-put out y s at m room few front rest =
+    ap (λ (l : List ℕ). take at out ++ (l ++ postOf at m out)) (sym (take-append-drop (length s) y) ∙ ap₂ (λ (a b : List ℕ). a ++ b) front rest)
+    ∙ ap (λ (l : List ℕ). take at out ++ l) (append-assoc s (drop (length s) (midOf at m out)) (postOf at m out) ∙ ap (λ (l : List ℕ). s ++ l) behind)
+    ∙ sym (append-assoc (take at out) s (drop (at + length s) out))
+    ∙ sym (sets-eq s out at (omega arith))
+  where
+    size : length (midOf at m out) ≡ m
+    size = length-take-le m (drop at out) (omega (arith, length-drop at out))
+
+    behind : drop (length s) (midOf at m out) ++ postOf at m out ≡ drop (at + length s) out
+    behind =
+        sym (drop-append-le (length s) (midOf at m out) (postOf at m out) (omega (arith, size)))
+        ∙ ap (drop (length s)) (take-append-drop m (drop at out))
+        ∙ drop-drop (length s) at out
 
 -- ---- what a program says
 

@@ -2,3 +2,4 @@
 pub mod Input
 pub mod Output
 pub mod Text
+pub mod Numbers

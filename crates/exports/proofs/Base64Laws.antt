@@ -11,7 +11,7 @@ use lib.Seq.{sets, sets-eq, length-sets, drop-cons, take-append-add, take-append
 use borrow.Author.Tests.{lt-ltb, le-ltb, eq-eqb, ne-eqb}
 use Rattle.console.specs.Input.{upTo, FindPost}
 use Rattle.console.specs.declared.input.Bytes.the-variants.{Count}
-use Rattle.exports.specs.Words.{ahead, DecodedPost}
+use Rattle.exports.specs.Words.{ahead, Decodes}
 use Rattle.exports.specs.Base64.{alphabet, sextetOf, bitsOf, threeOf, groupThen, endOf, lastGroup, base64Of, SextetPost, BitsPost}
 use Rattle.exports.proofs.WordLaws.{ahead-twice}
 
@@ -82,7 +82,7 @@ module _ (out : List ℕ) (n v k unit : ℕ) where
         ∙ ap (λ (t : Bool). ahead (take n out) (cond t (some (take k (threeOf v))) none)) (ne-eqb (v % unit) 0 h)
 
     pub end-put : (after : List ℕ) → k ≤ 3 → n + 3 ≤ length out → v % unit ≡ 0 → after ≡ sets out n (threeOf v)
-        → DecodedPost (ahead (take n out) (endOf k unit v)) (Count (n + k)) after
+        → Decodes (ahead (take n out) (endOf k unit v)) (Count (n + k)) after
     end-put after few room h e =
         let inside : n + k ≤ length after = omega (arith, ap (λ (l : List ℕ). length l) e, length-sets out n (threeOf v)) in (
           ap (λ (t : Bool). ahead (take n out) (cond t (cond (eqb (v % unit) 0) (some (take k (threeOf v))) none) none)) (lt-ltb v 16777216 small)
@@ -180,7 +180,7 @@ base64-odd (a ∷ b ∷ c ∷ d ∷ e ∷ l) n =
     let v = bitsOf (sextetOf a) (sextetOf b) (sextetOf c) (sextetOf d) in
     ap (groupThen v) (base64-odd (e ∷ l) (λ (z : length (e ∷ l) % 4 ≡ 0). n (let y : length (a ∷ b ∷ c ∷ d ∷ e ∷ l) % 4 ≡ 0 = omega arith in y))) ∙ then-none v
 
-pub base64-empty : (word after : List ℕ) → length word ≡ 0 → DecodedPost (base64Of word) (Count 0) after
+pub base64-empty : (word after : List ℕ) → length word ≡ 0 → Decodes (base64Of word) (Count 0) after
 unfolding base64Of
 base64-empty [] after h = (refl, (omega arith, refl))
 base64-empty (b ∷ word) after h = absurd (let z : ⊥ = omega arith in z)

@@ -4,3 +4,5 @@ pub mod Base64Laws
 pub mod LineLaws
 pub mod PackLaws
 pub mod RoundTrip
+pub mod UnpackLaws
+pub mod ReplyLaws

@@ -12,9 +12,9 @@ use borrow.Author.Tests.{eq-eqb, ne-eqb}
 use Rattle.console.specs.Input.{upTo, hexOf}
 use Rattle.console.specs.declared.input.Bytes.{Bytes}
 use Rattle.console.specs.declared.input.Bytes.the-variants.{Count, Other}
-use Rattle.exports.specs.Words.{DecodedPost}
+use Rattle.exports.specs.Words.{Decodes, DecodedPost}
 use Rattle.exports.specs.Base64.{base64Of}
-use Rattle.exports.specs.Hexadecimal.{lowered}
+use Rattle.exports.specs.Hexadecimal.{lowered, HexDecodedPost}
 use Rattle.exports.specs.Lines.{onFirst, linesOf, trimmed, orElse, stateOf}
 
 -- ---- the first line
@@ -90,13 +90,17 @@ word-short text word at n e =
 
 -- ---- a word
 
-pub spelled-hex : (word : List ℕ) (n : ℕ) (after : List ℕ) (r : Bytes) → r ≡ Count n → DecodedPost (hexOf (lowered word)) r after
-    → DecodedPost (stateOf word) (Count n) after
+pub spelled-hex : (word old after : List ℕ) (n : ℕ) (r : Bytes) → r ≡ Count n → HexDecodedPost word old r after → DecodedPost (stateOf word) old (Count n) after
 unfolding stateOf
-spelled-hex word n after r e p =
-    let w = subst (λ (x : Bytes). DecodedPost (hexOf (lowered word)) x after) e p in
-    (ap (λ (d : Option (List ℕ)). orElse d (base64Of word)) (w .0), w .1)
+spelled-hex word old after n r e p =
+    let w = subst (λ (x : Bytes). Decodes (hexOf (lowered word)) x after) e (p .decoded .answer) in
+    record { answer = (ap (λ (d : Option (List ℕ)). orElse d (base64Of word)) (w .0), w .1); free = p .decoded .free }
 
-pub not-hex : (word after : List ℕ) (r : Bytes) → r ≡ Other → DecodedPost (hexOf (lowered word)) r after → base64Of word ≡ stateOf word
+-- Base64 was read over what hexadecimal had left.
+pub not-hex : (word old between after : List ℕ) (r b : Bytes) → r ≡ Other → HexDecodedPost word old r between → DecodedPost (base64Of word) between b after
+    → DecodedPost (stateOf word) old b after
 unfolding stateOf
-not-hex word after r e p = sym (ap (λ (d : Option (List ℕ)). orElse d (base64Of word)) (subst (λ (x : Bytes). DecodedPost (hexOf (lowered word)) x after) e p))
+not-hex word old between after r b e p q =
+    let none-hex = subst (λ (x : Bytes). Decodes (hexOf (lowered word)) x between) e (p .decoded .answer) in
+    let same : base64Of word ≡ orElse (hexOf (lowered word)) (base64Of word) = sym (ap (λ (d : Option (List ℕ)). orElse d (base64Of word)) none-hex) in
+    record { answer = subst (λ (d : Option (List ℕ)). Decodes d b after) same (q .answer); free = q .free ∙ p .decoded .free }

@@ -18,7 +18,7 @@ use Rattle.batch.proofs.PackingLaws.{record-length, word-length}
 use Rattle.exports.specs.Base64.{base64Of}
 use Rattle.exports.specs.Hexadecimal.{lowerOf, lowered}
 use Rattle.exports.specs.Lines.{onFirst, linesOf, trimmed, orElse, stateOf, Held, state, heldBy, held}
-use Rattle.exports.specs.Packing.{Packing, packs, long, after, lineThen, packing, packingOf}
+use Rattle.exports.specs.Packing.{Packing, finished, long, stops, after, lineThen, packing, packingOf}
 use Rattle.exports.specs.Text.{textOf}
 use Rattle.exports.proofs.WordLaws.{lower-small, lower-large}
 
@@ -89,7 +89,7 @@ AllStates [] = Unit
 AllStates (s ∷ states) = ((0 < length s) × AllBytes s) × AllStates states
 
 lines-back : (states : List (List ℕ)) (room n end : ℕ) → AllStates states → end + length (recordsAt end states) ≤ room
-    → packing room n end (linesOf (textOf states)) ≡ packs states
+    → packing room n end (linesOf (textOf states)) ≡ record { states = states; stop = finished }
 unfolding packing recordsAt linesOf textOf
 lines-back [] room n end all fits = refl
 lines-back (s ∷ states) room n end all fits =
@@ -98,14 +98,14 @@ lines-back (s ∷ states) room n end all fits =
     let size : length (recordBytes (indexOf past states) s ++ rest) ≡ 8 + length s + length rest =
     length-append (recordBytes (indexOf past states) s) rest ∙ ap (λ (k : ℕ). k + length rest) (record-length (indexOf past states) s) in
     let more : ℕ → Packing = λ (e : ℕ). packing room (n + 1) e (linesOf (textOf states)) in
-    let next : packing room (n + 1) past (linesOf (textOf states)) ≡ packs states = lines-back states room (n + 1) past (all .1) (omega (arith, size)) in
+    let next : packing room (n + 1) past (linesOf (textOf states)) ≡ record { states = states; stop = finished } = lines-back states room (n + 1) past (all .1) (omega (arith, size)) in
     ap (packing room n end) (line-first (hexText s) (textOf states) (hex-digits s (all .0 .1)))
     ∙ ap (λ (h : Held). lineThen room (n + 1) end h more) (held-back s (all .0 .0) (all .0 .1))
-    ∙ ap (λ (t : Bool). cond t (after (s ∷ []) (more past)) (long (n + 1))) (le-leb past room (omega (arith, size)))
+    ∙ ap (λ (t : Bool). cond t (after (s ∷ []) (more past)) (stops (long (n + 1)))) (le-leb past room (omega (arith, size)))
     ∙ ap (after (s ∷ [])) next
 
 -- The lines that `unpack` prints of a batch's states make the same states again, where none of them is empty.
-pub packed-back : (states : List (List ℕ)) (room : ℕ) → AllStates states → length (packed states) ≤ room → packingOf room (textOf states) ≡ packs states
+pub packed-back : (states : List (List ℕ)) (room : ℕ) → AllStates states → length (packed states) ≤ room → packingOf room (textOf states) ≡ record { states = states; stop = finished }
 unfolding packed
 packed-back states room all fits =
     lines-back states room 0 4 all (omega (arith, length-append (wordBytes (indexOf 4 states)) (recordsAt 4 states), word-length (indexOf 4 states)))

@@ -1,20 +1,18 @@
 -- Laws of reading a word: digits in either case, and what stands at the front of a buffer.
-use mathlib.Core.Path.{_≡_, refl, sym, ap, _∙_, subst}
+use mathlib.Core.Path.{_≡_, refl, sym, ap, subst}
 use mathlib.Core.List.{List, [], _∷_, _++_, append-assoc}
 use mathlib.Core.Option.{Option, none, some}
 use Prim.Native.Nat.{ℕ, zero, suc, _+_, _*_, _<_, _≤_}
 use native.Mathlib.Omega.{arith}
-use lib.ListN.{length, take, set, getD, length-map, length-set}
-use lib.Seq.{take-suc-set, length-take-le}
-use native.Mathlib.Numerals.{add-one}
-use Rattle.console.specs.Output.{hexText, HexPost}
-use Rattle.exports.specs.Text.{LinePost}
+use lib.ListN.{length, take, drop, getD, length-map}
+use Rattle.console.specs.Input.{hexOf, onto}
+use Rattle.console.proofs.InputLaws.{hex-done}
 use borrow.Author.Tests.{lt-ltb, le-ltb}
 use Rattle.io.specs.Counts.{Counts}
 use Rattle.console.specs.declared.input.Bytes.{Bytes}
 use Rattle.console.specs.declared.input.Bytes.the-variants.{Count, Other}
-use Rattle.exports.specs.Words.{ahead, DecodedPost}
-use Rattle.exports.specs.Hexadecimal.{lowerOf, lowered}
+use Rattle.exports.specs.Words.{ahead, Decodes, DecodedPost}
+use Rattle.exports.specs.Hexadecimal.{lowerOf, lowered, HexDecodedPost}
 
 module _ (b : ℕ) where
   pub lower-small : b < 65 → b ≡ lowerOf b
@@ -57,31 +55,29 @@ pub ahead-twice : (a b : List ℕ) (d : Option (List ℕ)) → ahead a (ahead b 
 ahead-twice a b none = refl
 ahead-twice a b (some l) = ap some (sym (append-assoc a b l))
 
--- ---- a line of hexadecimal
+-- ---- a word in hexadecimal
 
-hex-length : (l : List ℕ) → length (hexText l) ≡ 2 * length l
-unfolding hexText
-hex-length [] = refl
-hex-length (b ∷ l) = let e : length (hexText l) ≡ 2 * length l = hex-length l in omega arith
+pub no-hex : {word old after : List ℕ} → length after ≡ length old → hexOf (lowered word) ≡ none → HexDecodedPost word old Other after
+no-hex same e = record { decoded = record { answer = e; free = same }; untouched = tt }
 
-pub hex-size : (bytes out after : List ℕ) (r : ℕ) → HexPost bytes out r after → r ≡ 2 * length bytes
-hex-size bytes out after r p = p .counts .1 ∙ ap (λ (l : List ℕ). length l) (p .text) ∙ hex-length bytes
-
-pub line-ended : (bytes out after : List ℕ) (r : ℕ) → HexPost bytes out r after → r < length after → LinePost bytes (r + 1) (set after r 10)
-line-ended bytes out after r p h =
-    let inside : r + 1 ≤ length (set after r 10) = omega (arith, length-set after r 10) in
-    record {
-      text = ap (λ (k : ℕ). take k (set after r 10)) (add-one r) ∙ take-suc-set after r 10 h ∙ ap (λ (l : List ℕ). l ++ 10 ∷ []) (p .text);
-      counts = (inside, sym (length-take-le (r + 1) (set after r 10) inside));
-    }
+pub hex-whole : (word old after : List ℕ) (i n : ℕ) → i ≡ n → length word ≤ 2 * n → n ≤ length after
+    → hexOf (lowered word) ≡ onto (take i after) (hexOf (drop (2 * i) (lowered word))) → length after ≡ length old → drop i after ≡ drop i old
+    → HexDecodedPost word old (Count n) after
+hex-whole word old after i n e short room whole same rest =
+    let d = hex-done (lowered word) old after i n e (omega (arith, lowered-length word)) room whole rest in
+    record { decoded = record { answer = (d .0, d .2); free = same }; untouched = d .1 }
 
 -- ---- for callers
 
-pub decoded-counts : (d : Option (List ℕ)) (after : List ℕ) (r : Bytes) (n : ℕ) → r ≡ Count n → DecodedPost d r after → Counts n after
-decoded-counts d after r n e p = subst (λ (x : Bytes). DecodedPost d x after) e p .1
+module _ (d : Option (List ℕ)) (old after : List ℕ) (r : Bytes) (p : DecodedPost d old r after) where
+  decoded-as : {x : Bytes} → r ≡ x → Decodes d x after
+  decoded-as e = subst (λ (x : Bytes). Decodes d x after) e (p .answer)
 
-pub decoded-some : (d : Option (List ℕ)) (after : List ℕ) (r : Bytes) (n : ℕ) → r ≡ Count n → DecodedPost d r after → d ≡ some (take n after)
-decoded-some d after r n e p = subst (λ (x : Bytes). DecodedPost d x after) e p .0
+  pub decoded-counts : (n : ℕ) → r ≡ Count n → Counts n after
+  decoded-counts n e = decoded-as e .1
 
-pub decoded-none : (d : Option (List ℕ)) (after : List ℕ) (r : Bytes) → r ≡ Other → DecodedPost d r after → d ≡ none
-decoded-none d after r e p = subst (λ (x : Bytes). DecodedPost d x after) e p
+  pub decoded-some : (n : ℕ) → r ≡ Count n → d ≡ some (take n after)
+  decoded-some n e = decoded-as e .0
+
+  pub decoded-none : r ≡ Other → d ≡ none
+  decoded-none e = decoded-as e

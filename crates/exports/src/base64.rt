@@ -3,7 +3,7 @@ ghost use mathlib.Core.Path.{_≡_};
 ghost use Prim.Native.Nat.{_+_, _≤_, _<_};
 ghost use lib.ListN.{length, getD, take, drop};
 ghost use lib.Seq.{sets};
-ghost use Rattle.exports.specs.Words.{ahead, DecodedPost};
+ghost use Rattle.exports.specs.Words.{ahead, Decodes, DecodedPost};
 ghost use Rattle.exports.specs.Base64.{sextetOf, threeOf, endOf, base64Of, SextetPost, BitsPost, GroupPre, EndPre};
 use console::input;
 use console::input::Bytes;
@@ -52,7 +52,7 @@ fn put_three(out: &mut [u8], n: usize, v: usize)
 // The last group's bytes behind the n that stand there.
 fn put_end(out: &mut [u8], n: usize, v: usize, k: usize, unit: usize) -> Bytes
     requires { ⌜ EndPre v k unit n (length (now out)) ⌝ }
-    ensures { λ r. ⌜ DecodedPost (ahead (take n (now (out .entry))) (endOf k unit v)) r (now (out .exit)) ⌝ }
+    ensures { λ r. ⌜ Decodes (ahead (take n (now (out .entry))) (endOf k unit v)) r (now (out .exit)) ⌝ }
 {
     if NONE <= v {
         return Bytes::Other;
@@ -67,7 +67,7 @@ fn put_end(out: &mut [u8], n: usize, v: usize, k: usize, unit: usize) -> Bytes
 // The group at the end of the word, which alone may be padded.
 fn last_group(word: &[u8], at: usize, out: &mut [u8], n: usize) -> Bytes
     requires { ⌜ (GroupPre (now word) (now out) at n) × (length (now word) ≡ at + 4) ⌝ }
-    ensures { λ r. ⌜ DecodedPost (ahead (take n (now (out .entry))) (base64Of (drop at (now (word .entry))))) r (now (out .exit)) ⌝ }
+    ensures { λ r. ⌜ Decodes (ahead (take n (now (out .entry))) (base64Of (drop at (now (word .entry))))) r (now (out .exit)) ⌝ }
 {
     let a = sextet(word[at]);
     let b = sextet(word[at + 1]);
@@ -98,7 +98,7 @@ fn group(word: &[u8], at: usize) -> usize
 // A byte string in base64, which is the whole word, put at the front of `out`.
 pub fn decode_base64(word: &[u8], out: &mut [u8]) -> Bytes
     requires { ⌜ length (now word) ≤ length (now out) ⌝ }
-    ensures { λ r. ⌜ DecodedPost (base64Of (now (word .entry))) r (now (out .exit)) ⌝ }
+    ensures { λ r. ⌜ DecodedPost (base64Of (now (word .entry))) (now (out .entry)) r (now (out .exit)) ⌝ }
 {
     if word.len() == 0 {
         return Bytes::Count(0);

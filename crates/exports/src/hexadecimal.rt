@@ -2,9 +2,7 @@
 ghost use mathlib.Core.Path.{_≡_};
 ghost use Prim.Native.Nat.{_≤_};
 ghost use lib.ListN.{length};
-ghost use Rattle.console.specs.Input.{hexOf};
-ghost use Rattle.exports.specs.Words.{DecodedPost};
-ghost use Rattle.exports.specs.Hexadecimal.{lowerOf, lowered};
+ghost use Rattle.exports.specs.Hexadecimal.{lowerOf, HexDecodedPost};
 use console::input;
 use console::input::Bytes;
 
@@ -23,7 +21,7 @@ fn lower(b: u8) -> u8
 // A byte string in hexadecimal, which is the whole word, put at the front of `out`.
 pub fn decode_hex(word: &[u8], out: &mut [u8]) -> Bytes
     requires { ⌜ length (now word) ≤ length (now out) ⌝ }
-    ensures { λ r. ⌜ DecodedPost (hexOf (lowered (now (word .entry)))) r (now (out .exit)) ⌝ }
+    ensures { λ r. ⌜ HexDecodedPost (now (word .entry)) (now (out .entry)) r (now (out .exit)) ⌝ }
 {
     let n = word.len() / 2;
     if word.len() % 2 == 1 {

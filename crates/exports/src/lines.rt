@@ -26,7 +26,7 @@ pub fn trim(line: &[u8]) -> &[u8]
 // The bytes that a word spells, put at the front of `out`: hexadecimal where it can be, else base64.
 pub fn read_state(word: &[u8], out: &mut [u8]) -> Bytes
     requires { ⌜ length (now word) ≤ length (now out) ⌝ }
-    ensures { λ r. ⌜ DecodedPost (stateOf (now (word .entry))) r (now (out .exit)) ⌝ }
+    ensures { λ r. ⌜ DecodedPost (stateOf (now (word .entry))) (now (out .entry)) r (now (out .exit)) ⌝ }
 {
     let r = hexadecimal::decode_hex(word, out);
     let Bytes::Count(n) = r else {

@@ -60,10 +60,10 @@ fn refused(r: Turn, line: usize) -> Packed
     }
 }
 
-// Packs the states of the lines into `out`, in their order. A state is read into `spare` first.
+// Packs the states of the lines into `out`, in their order, up to the first line that is refused. A state is read into `spare` first.
 pub fn pack(text: &[u8], spare: &mut [u8], out: &mut [u8]) -> Packed
     requires { ⌜ PackPre (now text) (now spare) (now out) ⌝ }
-    ensures { λ r. ⌜ PackedPost (packingOf (length (now (out .entry))) (now (text .entry))) r (now (out .exit)) ⌝ }
+    ensures { λ r. ⌜ PackedPost (packingOf (length (now (out .entry))) (now (text .entry))) (now (spare .entry)) (now (out .entry)) r (now (spare .exit)) (now (out .exit)) ⌝ }
 {
     let first = packing::put_word(out, 0, 0);
     let mut p = Place {

@@ -21,7 +21,7 @@ fn print_states(batch: &[u8], indices: &[u32]) {
 
 // How many records, the number that ends the chain, and the states.
 fn print_walk(batch: &[u8]) {
-    let mut indices = exports::text::index_cells();
+    let mut indices = exports::memory::index_cells();
     let w = unpacking::walk(batch, &mut indices);
     let n = w.records;
     console::text::print_number(n as u64);

@@ -4,16 +4,18 @@ use mathlib.Core.List.{List, [], _∷_, _++_, append-assoc}
 use Prim.Native.Nat.{ℕ, suc, _+_, _*_, _^_, _≤_, _<_}
 use native.Mathlib.Numerals.{add-one}
 use native.Mathlib.Omega.{arith}
-use lib.ListN.{length, take, drop, getD, set, length-append, length-drop, take-append-drop, drop-of-length-le}
-use lib.Seq.{sets, sets-eq, length-take-le, drop-append-le, drop-drop, drop-cons}
+use lib.ListN.{length, take, drop, getD, set, length-append, drop-of-length-le}
+use lib.Seq.{sets, drop-cons}
 use borrow.Author.Tests.{eq-eqb, ne-eqb}
-use borrow.Rule.Slice.PartMut.{midOf, postOf, putMid}
+use borrow.Rule.Slice.PartMut.{midOf, putMid}
 use Rattle.wire.specs.Varints.{PutPost}
 use Rattle.wire.proofs.EncodingLaws.{sets-more, Two, Four, four, two-length}
 use mathlib.Core.Logic.{⊎-elim}
 use Rattle.io.specs.Counts.{Counts}
 use Rattle.console.proofs.InputLaws.{side}
+use Rattle.console.specs.Numbers.{figures}
 use Rattle.console.specs.Output.{ascii, SignedPost, widenedOf, hexText, HexPost}
+use Rattle.console.proofs.OutputLaws.{part-put}
 use Rattle.rollup.specs.declared.accumulator.Accumulator.{Accumulator}
 use Rattle.rollup.specs.Accumulator.{fresh}
 use Rattle.batch.specs.declared.records.Ending.{Ending}
@@ -21,32 +23,14 @@ use Rattle.batch.specs.declared.records.Ending.the-variants.{Whole, Refused, Fu
 use Rattle.batch.specs.declared.closing.Count.{Count}
 use Rattle.batch.specs.declared.closing.Count.the-variants.{Registers}
 use Rattle.batch.proofs.NoBatchLaws.{NoBatch}
-use Rattle.reporting.specs.Numbers.{figures, signedText, numberText}
+use Rattle.reporting.specs.Numbers.{signedText, numberText}
 use Rattle.batch.specs.declared.closing.Report.{Report}
 use Rattle.reporting.specs.Text.{answerLine, answerLines, endingText, notZeroOf, numbersLine, numbersOf, stateText, reportText}
 use Rattle.reporting.proofs.NumberLaws.{signed-one, signed-length, number-length, number-short}
 
 -- ---- a number
 
--- What was put at the front of a lent part of the buffer was put into the buffer at the place where the part begins.
-part-put : (out y s : List ℕ) (at m : ℕ) → at + m ≤ length out → length s ≤ m → take (length s) y ≡ s → drop (length s) y ≡ drop (length s) (midOf at m out)
-    → putMid at m out y ≡ sets out at s
-part-put out y s at m room few front rest =
-    ap (λ (l : List ℕ). take at out ++ (l ++ postOf at m out)) (sym (take-append-drop (length s) y) ∙ ap₂ (λ (a b : List ℕ). a ++ b) front rest)
-    ∙ ap (λ (l : List ℕ). take at out ++ l) (append-assoc s (drop (length s) (midOf at m out)) (postOf at m out) ∙ ap (λ (l : List ℕ). s ++ l) behind)
-    ∙ sym (append-assoc (take at out) s (drop (at + length s) out))
-    ∙ sym (sets-eq s out at (omega arith))
-  where
-    size : length (midOf at m out) ≡ m
-    size = length-take-le m (drop at out) (omega (arith, length-drop at out))
-
-    behind : drop (length s) (midOf at m out) ++ postOf at m out ≡ drop (at + length s) out
-    behind =
-        sym (drop-append-le (length s) (midOf at m out) (postOf at m out) (omega (arith, size)))
-        ∙ ap (drop (length s)) (take-append-drop m (drop at out))
-        ∙ drop-drop (length s) at out
-
--- So with one byte more behind it.
+-- What was put at the front of a lent part of the buffer, and one byte more behind it.
 pub line-put : (out y s : List ℕ) (at end k m : ℕ) → at + m ≤ length out → length s ≤ m → take k y ≡ s → drop k y ≡ drop k (midOf at m out) → Counts k y
     → PutPost out at (s ++ end ∷ []) (at + k + 1) (set (putMid at m out y) (at + k) end)
 line-put out y s at end k m room few text rest counts =

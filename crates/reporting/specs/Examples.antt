@@ -6,7 +6,8 @@ use Prim.Native.Nat.{_-_, _^_}
 use Rattle.wire.specs.Examples.{sameBytes}
 use Rattle.console.specs.Output.{hexText}
 use Rattle.batch.specs.declared.records.Ending.the-variants.{Whole, Refused}
-use Rattle.reporting.specs.Numbers.{figures, signedText, numberText}
+use Rattle.console.specs.Numbers.{figures}
+use Rattle.reporting.specs.Numbers.{signedText, numberText}
 use Rattle.reporting.specs.Text.{answerLine, answerLines, endingText, numbersLine, stateText}
 
 -- B1: "1 0", "2 0", "10 15 4 2"; of its state the first two bytes, 08 and 70.

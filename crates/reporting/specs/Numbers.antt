@@ -2,18 +2,9 @@
 -- it of each number of 64 bits, and no other text, is shown in proofs/NumberLaws (`signed-is`, `signed-one`).
 use mathlib.Core.List.{List, [], _∷_, _++_}
 use mathlib.Core.Bool.{cond}
-use Prim.Native.Nat.{ℕ, zero, suc, _+_, _-_, _/_, _^_}
+use Prim.Native.Nat.{ℕ, _-_, _^_}
 use lib.Dec.{ltb}
-use Rattle.io.specs.Digits.{digits}
-
--- How many decimal digits n has, of at most k.
-unfoldable pub figures : ℕ → ℕ → ℕ
-figures zero n = 0
-figures (suc k) n = cond (ltb n 10) 1 (1 + figures k (n / 10))
-
--- A number in decimal. 20 digits hold each one of 64 bits.
-abbrev pub decimalText : ℕ → List ℕ
-decimalText n = digits 10 (figures 20 n) n
+use Rattle.console.specs.Numbers.{decimalText}
 
 -- The signed 64-bit number of the bits of v: from 2^63 on a minus, 45, and what is missing to 2^64.
 unfoldable pub signedText : ℕ → List ℕ

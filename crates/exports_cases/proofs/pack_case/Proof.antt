@@ -1,7 +1,5 @@
 -- `pack_case` is safe: the batch lies inside the memory that is lent.
-use denote.Ref.{now}
 use lib.ListN.{length}
-use Rattle.exports.specs.Packing.{packingOf}
 use Rattle.exports.proofs.PackLaws.{made-counts}
 use borrow.Author.Needs.{needs}
 use Rattle.exports_cases.proofs.pack_case.Statement.{statement}
@@ -32,10 +30,10 @@ enum-known-r : tie.Need-enum-known-r
 enum-known-r c = search needs
 
 slice-reshare-prefix-print-batch : tie.Need-slice-reshare-prefix-print-batch
-slice-reshare-prefix-print-batch c = made-counts (packingOf (length (now (c .before .before .before .before .before .before .before .before .before .before .before .before .before .before .args .out))) (now (c .before .before .before .before .before .before .before .before .before .before .before .before .before .before .args .lines))) (c .before .before .before .before .before .before .pack .result) (c .before .before .before .before .before .before .pack .last .1 .1 .0) (c .before .r .given .0 .0) (c .before .r .given .1) (c .before .before .before .before .before .before .pack .ensures) .0
+slice-reshare-prefix-print-batch c = made-counts (c .before .r .given .1) (c .before .before .before .before .before .before .pack .ensures) .0
 
 slice-aggregate-print-batch : tie.Need-slice-aggregate-print-batch
-slice-aggregate-print-batch c = made-counts (packingOf (length (now (c .before .before .before .before .before .before .before .before .before .before .before .before .before .before .before .args .out))) (now (c .before .before .before .before .before .before .before .before .before .before .before .before .before .before .before .args .lines))) (c .before .before .before .before .before .before .before .pack .result) (c .before .before .before .before .before .before .before .pack .last .1 .1 .0) (c .before .before .r .given .0 .0) (c .before .before .r .given .1) (c .before .before .before .before .before .before .before .pack .ensures) .1
+slice-aggregate-print-batch c = made-counts (c .before .before .r .given .1) (c .before .before .before .before .before .before .before .pack .ensures) .1
 
 print-batch-requires : tie.Need-print-batch-requires
 print-batch-requires c κs = search needs

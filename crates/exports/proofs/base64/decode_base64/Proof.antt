@@ -6,7 +6,7 @@ use mathlib.Core.List.{List}
 use mathlib.Core.Option.{Option}
 use Prim.Native.Nat.{ℕ, _%_, _-_, _≤_, _<_}
 use lib.ListN.{length, take, drop}
-use Rattle.exports.specs.Words.{ahead, DecodedPost}
+use Rattle.exports.specs.Words.{ahead, Decodes}
 use Rattle.exports.specs.Base64.{base64Of}
 use Rattle.exports.proofs.WordLaws.{ahead-nothing}
 use Rattle.exports.proofs.Base64Laws.{base64-empty, base64-odd, group-none, group-more}
@@ -21,10 +21,10 @@ abbrev μ-loop : tie.MeasureT-loop
 μ-loop word out₀ at₀ n₀ out at n = length word - at
 
 returns : tie.Need-returns Inv-loop μ-loop
-returns c = base64-empty (now (c .before .before .before .args .word)) (now (c .before .before .before .args .out)) (c .if1 .taken)
+returns c = record { answer = base64-empty (now (c .before .before .before .args .word)) (now (c .before .before .before .args .out)) (c .if1 .taken); free = refl }
 
 returns-2 : tie.Need-returns-2 Inv-loop μ-loop
-returns-2 c = base64-odd (now (c .before .before .before .before .args .word)) (c .if2 .taken)
+returns-2 c = record { answer = base64-odd (now (c .before .before .before .before .args .word)) (c .if2 .taken); free = refl }
 
 loop-holds : tie.Need-loop-holds Inv-loop μ-loop
 loop-holds c = (ahead-nothing (base64Of (now (c .before .before .before .before .args .word))), refl, omega arith, omega arith, refl, c .if2 .left, c .before .before .before .before .pre)
@@ -39,7 +39,7 @@ same-length : tie.Need-same-length Inv-loop μ-loop
 same-length c = search needs
 
 returns-3 : tie.Need-returns-3 Inv-loop μ-loop
-returns-3 c = c .before .before .before .loop .inv .0 ∙ group-none (now (c .before .before .before .before .before .before .before .before .args .word)) (c .before .before .before .loop .at) (omega arith) (c .before .group .result) (c .before .group .ensures) (take (c .before .before .before .loop .n) (c .before .before .before .loop .out)) (c .if3 .taken)
+returns-3 c = record { answer = c .before .before .before .loop .inv .0 ∙ group-none (now (c .before .before .before .before .before .before .before .before .args .word)) (c .before .before .before .loop .at) (omega arith) (c .before .group .result) (c .before .group .ensures) (take (c .before .before .before .loop .n) (c .before .before .before .loop .out)) (c .if3 .taken); free = c .before .before .before .loop .inv .4 }
 
 put-three-requires : tie.Need-put-three-requires Inv-loop μ-loop
 put-three-requires c κs = search needs
@@ -63,7 +63,7 @@ same-length-2 : tie.Need-same-length-2 Inv-loop μ-loop
 same-length-2 c = search needs
 
 returns-4 : tie.Need-returns-4 Inv-loop μ-loop
-returns-4 c = subst (λ (d : Option (List ℕ)). DecodedPost d (c .before .before .last-group .result) (c .before .before .last-group .last .1 .1 .0)) (sym (c .before .before .before .before .before .loop .inv .0)) (c .before .before .last-group .ensures)
+returns-4 c = record { answer = subst (λ (d : Option (List ℕ)). Decodes d (c .before .before .last-group .result) (c .before .before .last-group .last .1 .1 .0)) (sym (c .before .before .before .before .before .loop .inv .0)) (c .before .before .last-group .ensures); free = c .before .before .last-group .kept .1 .1 .0 ∙ c .before .before .before .before .before .loop .inv .4 }
 
 pub decode-base64-spec : {M : Type 1} → statement M
 decode-base64-spec =

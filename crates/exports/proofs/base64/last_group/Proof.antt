@@ -5,7 +5,7 @@ use mathlib.Core.Path.{refl, subst}
 use mathlib.Core.List.{List}
 use mathlib.Core.Option.{Option}
 use lib.ListN.{take}
-use Rattle.exports.specs.Words.{ahead, DecodedPost}
+use Rattle.exports.specs.Words.{ahead, Decodes}
 use Rattle.exports.proofs.Base64Laws.{bits-of, last-three, last-two, last-one}
 use borrow.Author.Needs.{needs}
 use Rattle.exports.proofs.base64.last_group.Statement.{statement}
@@ -54,7 +54,7 @@ same-length : tie.Need-same-length
 same-length c = search needs
 
 returns : tie.Need-returns
-returns c = subst (λ (d : Option (List ℕ)). DecodedPost (ahead (take (c .before .before .before .before .before .before .before .before .before .before .before .before .before .before .before .before .args .n) (now (c .before .before .before .before .before .before .before .before .before .before .before .before .before .before .before .before .args .out))) d) (c .before .before .put-end .result) (c .before .before .put-end .last .0)) (last-three (now (c .before .before .before .before .before .before .before .before .before .before .before .before .before .before .before .before .args .word)) (c .before .before .before .before .before .before .before .before .before .before .before .before .before .before .before .before .args .at) (c .before .before .before .before .before .before .before .before .before .before .before .before .before .before .before .before .pre .1) (c .before .before .before .bits .result) (c .before .before .before .before .before .before .before .if1 .taken) (bits-of _ _ _ _ (c .before .before .before .before .before .before .before .before .before .before .before .before .sextet .result) (c .before .before .before .before .before .before .before .before .before .before .sextet2 .result) (c .before .before .before .before .before .sextet3 .result) (c .before .before .before .before .sextet4 .result) (c .before .before .before .bits .result) (c .before .before .before .before .before .before .before .before .before .before .before .before .sextet .ensures .value) (c .before .before .before .before .before .before .before .before .before .before .sextet2 .ensures .value) (c .before .before .before .before .before .sextet3 .ensures .value) (c .before .before .before .before .sextet4 .ensures .value) (c .before .before .before .bits .ensures))) (c .before .before .put-end .ensures)
+returns c = subst (λ (d : Option (List ℕ)). Decodes (ahead (take (c .before .before .before .before .before .before .before .before .before .before .before .before .before .before .before .before .args .n) (now (c .before .before .before .before .before .before .before .before .before .before .before .before .before .before .before .before .args .out))) d) (c .before .before .put-end .result) (c .before .before .put-end .last .0)) (last-three (now (c .before .before .before .before .before .before .before .before .before .before .before .before .before .before .before .before .args .word)) (c .before .before .before .before .before .before .before .before .before .before .before .before .before .before .before .before .args .at) (c .before .before .before .before .before .before .before .before .before .before .before .before .before .before .before .before .pre .1) (c .before .before .before .bits .result) (c .before .before .before .before .before .before .before .if1 .taken) (bits-of _ _ _ _ (c .before .before .before .before .before .before .before .before .before .before .before .before .sextet .result) (c .before .before .before .before .before .before .before .before .before .before .sextet2 .result) (c .before .before .before .before .before .sextet3 .result) (c .before .before .before .before .sextet4 .result) (c .before .before .before .bits .result) (c .before .before .before .before .before .before .before .before .before .before .before .before .sextet .ensures .value) (c .before .before .before .before .before .before .before .before .before .before .sextet2 .ensures .value) (c .before .before .before .before .before .sextet3 .ensures .value) (c .before .before .before .before .sextet4 .ensures .value) (c .before .before .before .bits .ensures))) (c .before .before .put-end .ensures)
 
 sextet-requires-5 : tie.Need-sextet-requires-5
 sextet-requires-5 c κs = search needs
@@ -69,7 +69,7 @@ same-length-2 : tie.Need-same-length-2
 same-length-2 c = search needs
 
 returns-2 : tie.Need-returns-2
-returns-2 c = subst (λ (d : Option (List ℕ)). DecodedPost (ahead (take (c .before .before .before .before .before .before .before .before .before .before .before .before .before .before .before .before .args .n) (now (c .before .before .before .before .before .before .before .before .before .before .before .before .before .before .before .before .args .out))) d) (c .before .before .put-end2 .result) (c .before .before .put-end2 .last .0)) (last-two (now (c .before .before .before .before .before .before .before .before .before .before .before .before .before .before .before .before .args .word)) (c .before .before .before .before .before .before .before .before .before .before .before .before .before .before .before .before .args .at) (c .before .before .before .before .before .before .before .before .before .before .before .before .before .before .before .before .pre .1) (c .before .before .before .bits2 .result) (c .before .before .before .before .before .before .before .if1 .left) (c .before .before .before .before .before .before .if2 .taken) (bits-of _ _ _ _ (c .before .before .before .before .before .before .before .before .before .before .before .before .sextet .result) (c .before .before .before .before .before .before .before .before .before .before .sextet2 .result) (c .before .before .before .before .sextet5 .result) 0 (c .before .before .before .bits2 .result) (c .before .before .before .before .before .before .before .before .before .before .before .before .sextet .ensures .value) (c .before .before .before .before .before .before .before .before .before .before .sextet2 .ensures .value) (c .before .before .before .before .sextet5 .ensures .value) refl (c .before .before .before .bits2 .ensures))) (c .before .before .put-end2 .ensures)
+returns-2 c = subst (λ (d : Option (List ℕ)). Decodes (ahead (take (c .before .before .before .before .before .before .before .before .before .before .before .before .before .before .before .before .args .n) (now (c .before .before .before .before .before .before .before .before .before .before .before .before .before .before .before .before .args .out))) d) (c .before .before .put-end2 .result) (c .before .before .put-end2 .last .0)) (last-two (now (c .before .before .before .before .before .before .before .before .before .before .before .before .before .before .before .before .args .word)) (c .before .before .before .before .before .before .before .before .before .before .before .before .before .before .before .before .args .at) (c .before .before .before .before .before .before .before .before .before .before .before .before .before .before .before .before .pre .1) (c .before .before .before .bits2 .result) (c .before .before .before .before .before .before .before .if1 .left) (c .before .before .before .before .before .before .if2 .taken) (bits-of _ _ _ _ (c .before .before .before .before .before .before .before .before .before .before .before .before .sextet .result) (c .before .before .before .before .before .before .before .before .before .before .sextet2 .result) (c .before .before .before .before .sextet5 .result) 0 (c .before .before .before .bits2 .result) (c .before .before .before .before .before .before .before .before .before .before .before .before .sextet .ensures .value) (c .before .before .before .before .before .before .before .before .before .before .sextet2 .ensures .value) (c .before .before .before .before .sextet5 .ensures .value) refl (c .before .before .before .bits2 .ensures))) (c .before .before .put-end2 .ensures)
 
 bits-requires-3 : tie.Need-bits-requires-3
 bits-requires-3 c κs = search needs
@@ -81,7 +81,7 @@ same-length-3 : tie.Need-same-length-3
 same-length-3 c = search needs
 
 returns-3 : tie.Need-returns-3
-returns-3 c = subst (λ (d : Option (List ℕ)). DecodedPost (ahead (take (c .before .before .before .before .before .before .before .before .before .before .before .before .before .before .before .args .n) (now (c .before .before .before .before .before .before .before .before .before .before .before .before .before .before .before .args .out))) d) (c .before .before .put-end3 .result) (c .before .before .put-end3 .last .0)) (last-one (now (c .before .before .before .before .before .before .before .before .before .before .before .before .before .before .before .args .word)) (c .before .before .before .before .before .before .before .before .before .before .before .before .before .before .before .args .at) (c .before .before .before .before .before .before .before .before .before .before .before .before .before .before .before .pre .1) (c .before .before .before .bits3 .result) (c .before .before .before .before .before .before .if1 .left) (c .before .before .before .before .before .if2 .left) (bits-of _ _ _ _ (c .before .before .before .before .before .before .before .before .before .before .before .sextet .result) (c .before .before .before .before .before .before .before .before .before .sextet2 .result) 0 0 (c .before .before .before .bits3 .result) (c .before .before .before .before .before .before .before .before .before .before .before .sextet .ensures .value) (c .before .before .before .before .before .before .before .before .before .sextet2 .ensures .value) refl refl (c .before .before .before .bits3 .ensures))) (c .before .before .put-end3 .ensures)
+returns-3 c = subst (λ (d : Option (List ℕ)). Decodes (ahead (take (c .before .before .before .before .before .before .before .before .before .before .before .before .before .before .before .args .n) (now (c .before .before .before .before .before .before .before .before .before .before .before .before .before .before .before .args .out))) d) (c .before .before .put-end3 .result) (c .before .before .put-end3 .last .0)) (last-one (now (c .before .before .before .before .before .before .before .before .before .before .before .before .before .before .before .args .word)) (c .before .before .before .before .before .before .before .before .before .before .before .before .before .before .before .args .at) (c .before .before .before .before .before .before .before .before .before .before .before .before .before .before .before .pre .1) (c .before .before .before .bits3 .result) (c .before .before .before .before .before .before .if1 .left) (c .before .before .before .before .before .if2 .left) (bits-of _ _ _ _ (c .before .before .before .before .before .before .before .before .before .before .before .sextet .result) (c .before .before .before .before .before .before .before .before .before .sextet2 .result) 0 0 (c .before .before .before .bits3 .result) (c .before .before .before .before .before .before .before .before .before .before .before .sextet .ensures .value) (c .before .before .before .before .before .before .before .before .before .sextet2 .ensures .value) refl refl (c .before .before .before .bits3 .ensures))) (c .before .before .put-end3 .ensures)
 
 pub last-group-spec : {M : Type 1} → statement M
 last-group-spec =

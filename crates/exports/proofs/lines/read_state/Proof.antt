@@ -1,10 +1,5 @@
 -- Hexadecimal, or else base64.
 use denote.Ref.{now}
-use mathlib.Core.Path.{subst}
-use mathlib.Core.List.{List}
-use mathlib.Core.Option.{Option}
-use Prim.Native.Nat.{ℕ}
-use Rattle.exports.specs.Words.{DecodedPost}
 use Rattle.exports.proofs.LineLaws.{spelled-hex, not-hex}
 use borrow.Author.Needs.{needs}
 use Rattle.exports.proofs.lines.read_state.Statement.{statement}
@@ -26,13 +21,13 @@ same-length : tie.Need-same-length
 same-length c = search needs
 
 returns : tie.Need-returns
-returns c = subst (λ (d : Option (List ℕ)). DecodedPost d (c .before .before .decode-base64 .result) (c .before .before .decode-base64 .last .1 .0)) (not-hex (now (c .before .before .before .before .before .before .before .before .before .before .before .before .args .word)) (c .before .before .before .before .before .before .before .before .decode-hex .last .1 .0) (c .before .before .before .before .before .before .before .before .decode-hex .result) (c .before .before .before .before .enum-told .given .1) (c .before .before .before .before .before .before .before .before .decode-hex .ensures)) (c .before .before .decode-base64 .ensures)
+returns c = not-hex (now (c .before .before .before .before .before .before .before .before .before .before .before .before .args .word)) (now (c .before .before .before .before .before .before .before .before .before .before .before .before .args .out)) (c .before .before .before .before .before .before .before .before .decode-hex .last .1 .0) (c .before .before .decode-base64 .last .1 .0) (c .before .before .before .before .before .before .before .before .decode-hex .result) (c .before .before .decode-base64 .result) (c .before .before .before .before .enum-told .given .1) (c .before .before .before .before .before .before .before .before .decode-hex .ensures) (c .before .before .decode-base64 .ensures)
 
 same-length-2 : tie.Need-same-length-2
 same-length-2 c = search needs
 
 returns-2 : tie.Need-returns-2
-returns-2 c = spelled-hex (now (c .before .before .before .before .before .before .before .before .before .args .word)) (c .before .r .given .0 .0) (c .before .before .before .before .before .decode-hex .last .1 .0) (c .before .before .before .before .before .decode-hex .result) (c .before .r .given .1) (c .before .before .before .before .before .decode-hex .ensures)
+returns-2 c = spelled-hex (now (c .before .before .before .before .before .before .before .before .before .args .word)) (now (c .before .before .before .before .before .before .before .before .before .args .out)) (c .before .before .before .before .before .decode-hex .last .1 .0) (c .before .r .given .0 .0) (c .before .before .before .before .before .decode-hex .result) (c .before .r .given .1) (c .before .before .before .before .before .decode-hex .ensures)
 
 pub read-state-spec : {M : Type 1} → statement M
 read-state-spec =

@@ -1,11 +1,9 @@
 -- The batch of the lines so far, and what the others make of it (`Packs`).
 use native.Mathlib.Omega.{arith}
 use denote.Ref.{now}
-use mathlib.Core.Path.{_≡_, refl, _∙_, subst}
-use Prim.Native.Nat.{ℕ, _+_, _-_, _≤_}
+use mathlib.Core.Path.{_≡_, refl, _∙_}
+use Prim.Native.Nat.{_+_, _-_, _≤_}
 use lib.ListN.{length}
-use Rattle.exports.specs.declared.packing.Packed.the-variants.{Batch}
-use Rattle.exports.specs.Packing.{packingOf, PackedPost}
 use Rattle.batch.proofs.PackingLaws.{open-behind}
 use Rattle.exports.proofs.LineLaws.{word-short}
 use Rattle.exports.proofs.PackLaws.{Packs, packs-start, packs-turn, packs-refused, packs-end}
@@ -14,7 +12,7 @@ use Rattle.exports.proofs.packing.pack.Statement.{statement}
 use Rattle.exports.proofs.packing.pack.Tie as tie
 
 abbrev Inv-loop : tie.InvT-loop
-Inv-loop text spare₀ out₀ first p₀ at₀ line₀ spare out p at line = Packs text out (length out₀) p at line × (length spare ≡ length spare₀) × (length text ≤ length spare₀)
+Inv-loop text spare₀ out₀ first p₀ at₀ line₀ spare out p at line = Packs text out₀ out p at line × (length spare ≡ length spare₀) × (length text ≤ length spare₀)
 
 abbrev μ-loop : tie.MeasureT-loop
 μ-loop text spare₀ out₀ first p₀ at₀ line₀ spare out p at line = length text + 1 - at
@@ -59,7 +57,7 @@ same-length-2 : tie.Need-same-length-2 Inv-loop μ-loop
 same-length-2 c = search needs
 
 returns : tie.Need-returns Inv-loop μ-loop
-returns c = subst (λ (k : ℕ). PackedPost (packingOf k (now (c .before .before .before .before .before .before .before .before .before .before .before .before .before .before .before .before .before .before .before .before .before .args .text))) (c .refused .result) (c .before .before .before .before .before .before .pack-word .last .1 .1 .0)) (c .before .before .before .before .before .before .before .before .before .before .before .before .before .before .before .before .put-word .kept .0) (packs-refused (now (c .before .before .before .before .before .before .before .before .before .before .before .before .before .before .before .before .before .before .before .before .before .args .text)) (c .before .before .before .before .before .before .before .before .before .before .before .before .before .loop .out) (length (c .before .before .before .before .before .before .before .before .before .before .before .before .before .before .before .before .put-word .last .0)) (c .before .before .before .before .before .before .before .before .before .before .before .before .before .loop .p) (c .before .before .before .before .before .before .before .before .before .before .before .before .before .loop .at) (c .before .before .before .before .before .before .before .before .before .before .before .before .before .loop .line) (c .before .before .before .before .before .before .before .before .before .before .before .before .before .loop .inv .0) (c .before .before .before .before .before .before .before .before .before .before .before .find .result) (now (c .before .before .before .before .before .before .before .before .before .trim .result)) (c .before .before .before .before .before .before .before .before .before .before .before .before .loop-test .taken) (c .before .before .before .before .before .before .before .before .before .before .before .find .ensures .place) (c .before .before .before .before .before .before .before .before .before .trim .ensures) (c .before .before .before .before .before .before .pack-word .result) (c .refused .result) (c .before .before .before .before .before .before .pack-word .last .1 .1 .0) (c .before .match .keys2) (c .refused .ensures) (c .before .before .before .before .before .before .pack-word .ensures))
+returns c = packs-refused (now (c .before .before .before .before .before .before .before .before .before .before .before .before .before .before .before .before .before .before .before .before .before .args .text)) (c .before .before .before .before .before .before .before .before .before .before .before .before .before .before .before .before .put-word .last .0) (c .before .before .before .before .before .before .before .before .before .before .before .before .before .loop .out) (c .before .before .before .before .before .before .before .before .before .before .before .before .before .loop .p) (c .before .before .before .before .before .before .before .before .before .before .before .before .before .loop .at) (c .before .before .before .before .before .before .before .before .before .before .before .before .before .loop .line) (c .before .before .before .before .before .before .before .before .before .before .before .before .before .loop .inv .0) (c .before .before .before .before .before .before .before .before .before .before .before .find .result) (now (c .before .before .before .before .before .before .before .before .before .trim .result)) (c .before .before .before .before .before .before .before .before .before .before .before .before .loop-test .taken) (c .before .before .before .before .before .before .before .before .before .before .before .find .ensures .place) (c .before .before .before .before .before .before .before .before .before .trim .ensures) (now (c .before .before .before .before .before .before .before .before .before .before .before .before .before .before .before .before .before .before .before .before .before .args .out)) (now (c .before .before .before .before .before .before .before .before .before .before .before .before .before .before .before .before .before .before .before .before .before .args .spare)) (c .before .before .before .before .before .before .pack-word .last .1 .0) (c .before .before .before .before .before .before .before .before .before .before .before .before .before .before .before .before .put-word .result) (c .before .before .before .before .before .before .before .before .before .before .before .before .before .before .before .before .put-word .ensures) (c .before .before .before .before .before .before .pack-word .kept .1 .0 ∙ c .before .before .before .before .before .before .before .before .before .before .before .before .before .loop .inv .1) (c .before .before .before .before .before .before .pack-word .result) (c .refused .result) (c .before .before .before .before .before .before .pack-word .last .1 .1 .0) (c .before .match .keys2) (c .refused .ensures) (c .before .before .before .before .before .before .pack-word .ensures)
 
 add-at : tie.Need-add-at Inv-loop μ-loop
 add-at c = omega (arith, c .before .before .before .before .before .before .before .before .before .before .before .before .find .ensures .inside (omega arith))
@@ -68,7 +66,7 @@ loop-less : tie.Need-loop-less Inv-loop μ-loop
 loop-less c = omega (arith, c .before .before .before .before .before .before .before .before .before .before .before .before .find .ensures .from, c .before .before .before .before .before .before .before .before .before .before .before .before .before .loop-test .taken)
 
 loop-again : tie.Need-loop-again Inv-loop μ-loop
-loop-again c = (packs-turn (now (c .before .before .before .before .before .before .before .before .before .before .before .before .before .before .before .before .before .before .before .before .before .before .args .text)) (c .before .before .before .before .before .before .before .before .before .before .before .before .before .before .loop .out) (length (c .before .before .before .before .before .before .before .before .before .before .before .before .before .before .before .before .before .put-word .last .0)) (c .before .before .before .before .before .before .before .before .before .before .before .before .before .before .loop .p) (c .before .before .before .before .before .before .before .before .before .before .before .before .before .before .loop .at) (c .before .before .before .before .before .before .before .before .before .before .before .before .before .before .loop .line) (c .before .before .before .before .before .before .before .before .before .before .before .before .before .before .loop .inv .0) (c .before .before .before .before .before .before .before .before .before .before .before .before .find .result) (now (c .before .before .before .before .before .before .before .before .before .before .trim .result)) (c .before .before .before .before .before .before .before .before .before .before .before .before .before .loop-test .taken) (c .before .before .before .before .before .before .before .before .before .before .before .before .find .ensures .place) (c .before .before .before .before .before .before .before .before .before .before .trim .ensures) (c .before .before .before .before .before .before .before .pack-word .result) (c .before .before .before .before .before .before .before .pack-word .last .1 .1 .0) (c .before .r .given .0 .0) (c .before .before .before .before .before .before .before .pack-word .kept .1 .1 .0) (c .before .r .given .1) (c .before .before .before .before .before .before .before .pack-word .ensures), c .before .before .before .before .before .before .before .pack-word .kept .1 .0 ∙ c .before .before .before .before .before .before .before .before .before .before .before .before .before .before .loop .inv .1, c .before .before .before .before .before .before .before .before .before .before .before .before .before .before .loop .inv .2)
+loop-again c = (packs-turn (now (c .before .before .before .before .before .before .before .before .before .before .before .before .before .before .before .before .before .before .before .before .before .before .args .text)) (c .before .before .before .before .before .before .before .before .before .before .before .before .before .before .before .before .before .put-word .last .0) (c .before .before .before .before .before .before .before .before .before .before .before .before .before .before .loop .out) (c .before .before .before .before .before .before .before .before .before .before .before .before .before .before .loop .p) (c .before .before .before .before .before .before .before .before .before .before .before .before .before .before .loop .at) (c .before .before .before .before .before .before .before .before .before .before .before .before .before .before .loop .line) (c .before .before .before .before .before .before .before .before .before .before .before .before .before .before .loop .inv .0) (c .before .before .before .before .before .before .before .before .before .before .before .before .find .result) (now (c .before .before .before .before .before .before .before .before .before .before .trim .result)) (c .before .before .before .before .before .before .before .before .before .before .before .before .before .loop-test .taken) (c .before .before .before .before .before .before .before .before .before .before .before .before .find .ensures .place) (c .before .before .before .before .before .before .before .before .before .before .trim .ensures) (c .before .before .before .before .before .before .before .pack-word .result) (c .before .before .before .before .before .before .before .pack-word .last .1 .1 .0) (c .before .r .given .0 .0) (c .before .before .before .before .before .before .before .pack-word .kept .1 .1 .0) (c .before .r .given .1) (c .before .before .before .before .before .before .before .pack-word .ensures), c .before .before .before .before .before .before .before .pack-word .kept .1 .0 ∙ c .before .before .before .before .before .before .before .before .before .before .before .before .before .before .loop .inv .1, c .before .before .before .before .before .before .before .before .before .before .before .before .before .before .loop .inv .2)
 
 same-length-3 : tie.Need-same-length-3 Inv-loop μ-loop
 same-length-3 c = search needs
@@ -77,7 +75,7 @@ same-length-4 : tie.Need-same-length-4 Inv-loop μ-loop
 same-length-4 c = search needs
 
 returns-2 : tie.Need-returns-2 Inv-loop μ-loop
-returns-2 c = subst (λ (k : ℕ). PackedPost (packingOf k (now (c .before .before .before .before .before .before .before .before .before .args .text))) (Batch (c .before .loop .p .end)) (c .before .loop .out)) (c .before .before .before .before .put-word .kept .0) (packs-end (now (c .before .before .before .before .before .before .before .before .before .args .text)) (c .before .loop .out) (length (c .before .before .before .before .put-word .last .0)) (c .before .loop .p) (c .before .loop .at) (c .before .loop .line) (c .before .loop .inv .0) (search needs))
+returns-2 c = packs-end (now (c .before .before .before .before .before .before .before .before .before .args .text)) (now (c .before .before .before .before .before .before .before .before .before .args .out)) (now (c .before .before .before .before .before .before .before .before .before .args .spare)) (c .before .loop .spare) (c .before .before .before .before .put-word .last .0) (c .before .before .before .before .put-word .result) (c .before .before .before .before .put-word .ensures) (c .before .loop .inv .1) (c .before .loop .out) (c .before .loop .p) (c .before .loop .at) (c .before .loop .line) (c .before .loop .inv .0) (search needs)
 
 pub pack-spec : {M : Type 1} → statement M
 pack-spec =
