@@ -1,7 +1,7 @@
 -- What is reported of bytes that are no batch: no record and 24, a fresh roll-up, and the refusal to write it.
 use Prim.Native.Nat.{ℕ}
 use mathlib.Core.Path.{_≡_, refl, sym, ap, _∙_, subst}
-use mathlib.Core.List.{List, [], _∷_}
+use mathlib.Core.List.{List, [], _∷_, map}
 use mathlib.Core.Bool.{Bool, true, false, cond, true≢false}
 use native.Mathlib.Omega.{arith}
 use lib.ListN.{length, take}
@@ -11,13 +11,13 @@ use Rattle.rollup.specs.declared.accumulator.Accumulator.{Accumulator}
 use Rattle.rollup.specs.Accumulator.{Mem, fresh}
 use Rattle.wire.specs.Encoding.{Output}
 use Rattle.rollup.specs.Writing.{writeOutcome}
-use Rattle.rollup.specs.Calls.{Call, Run, begun, adding, writing}
+use Rattle.rollup.specs.Calls.{Call, Steps, begun, adding, writing, moving}
 use Rattle.rollup.proofs.ViewLaws.{fresh-fits}
 use Rattle.rollup.proofs.WriteLaws.{write-fresh}
 use Rattle.batch.specs.declared.records.Ending.the-variants.{Refused, Full}
 use Rattle.batch.specs.declared.closing.Count.the-variants.{Registers}
 use Rattle.batch.specs.declared.closing.Report.{Report}
-use Rattle.batch.specs.Chain.{Chain, isBatch, chainOf}
+use Rattle.batch.specs.Chain.{Chain, stateAt, isBatch, chainOf}
 use Rattle.batch.specs.Batch.{addedAll, endingFor, statesFor}
 use Rattle.batch.specs.Closing.{countFor, ReportPost}
 use Rattle.batch.proofs.ChainLaws.{chain-is}
@@ -26,11 +26,12 @@ abbrev isNone : List Call → Bool
 isNone [] = true
 isNone (c ∷ calls) = false
 
--- With no calls the head is fresh.
-run-none : {room : ℕ} {first : Mem} {calls : List Call} {a : Accumulator} {m : Mem} → calls ≡ [] → Run room first calls a m → a ≡ fresh
-run-none e begun = refl
-run-none e (adding bytes r n run post) = absurd (true≢false (sym (ap isNone e)))
-run-none e (writing out r n after run post) = absurd (true≢false (sym (ap isNone e)))
+-- With no calls the head is as it was.
+steps-none : {a₀ : Accumulator} {m₀ : Mem} {calls : List Call} {a : Accumulator} {m : Mem} → calls ≡ [] → Steps a₀ m₀ calls a m → a ≡ a₀
+steps-none e begun = refl
+steps-none e (adding room bytes r n steps post) = absurd (true≢false (sym (ap isNone e)))
+steps-none e (writing room out r n after steps post) = absurd (true≢false (sym (ap isNone e)))
+steps-none e (moving n steps post) = absurd (true≢false (sym (ap isNone e)))
 
 pub record NoBatch (r : Report) : Type 0 where
   pub records : r .rolled .records ≡ 0
@@ -55,7 +56,7 @@ no-batch-report {batch} {room = room} {old = old} {space = space} {out = out} {r
     }
   where
     none : statesFor batch (length old) ≡ []
-    none = ap (λ (c : Chain). take (length old) (c .states)) (chain-is batch e) ∙ take-nil (length old)
+    none = ap (λ (c : Chain). take (length old) (map (stateAt batch) (c .indices))) (chain-is batch e) ∙ take-nil (length old)
 
     head : r .rolled .head ≡ fresh
-    head = run-none (ap (λ (l : List (List ℕ)). addedAll l (take (r .rolled .records) answers) []) none) (p .rolled .run)
+    head = steps-none (ap (λ (l : List (List ℕ)). addedAll room l (take (r .rolled .records) answers) []) none) (p .rolled .run)
