@@ -267,8 +267,8 @@ fn main_cases(chance: &mut Chance) -> Vec<Case> {
     // The list of a first state is kept as it is, so it may have one value twice; a fold then knows less of it.
     let name = "states without list or data at a list of 24,000 values, one of them twice";
     all.push(case(name, 15, SETS, || {
-        let mut kept = values(chance, pair, 24_000);
-        kept.insert(1, kept[0]);
+        let mut kept: Vec<u32> = (0..24_000).map(|i| 40 * i + chance.below(40) as u32).collect();
+        kept[1] = kept[0];
         set(vec![list(pair, &kept).encode()], vec![neither(pair).encode(); 1000])
     }));
     let name = "lists of 3,000 values merged into a list of 4,000 and more";

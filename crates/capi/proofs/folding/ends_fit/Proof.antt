@@ -2,7 +2,6 @@
 use Prim.Native.Nat.{_+_, _-_}
 use mathlib.Core.Bool.{Bool, _&&_}
 use mathlib.Core.Path.{_≡_, refl, sym, ap, _∙_}
-use native.Mathlib.Omega.{arith}
 use lib.ListN.{length, drop, getD}
 use denote.Ref.{now}
 use Rattle.capi.specs.Folds.{endsFit}
