@@ -34,7 +34,7 @@ fn unpack_array(text: &mut [u8; 1048576]) {
 }
 
 // Unpacks a batch: its bytes on standard input, and a line of lowercase hexadecimal on standard output for each state, in the order of the chain. Where the
-// chain is broken, nothing is written but a message on standard error. The text may have 1,048,576 bytes: seven times what any batch needs whose records
+// chain is broken, nothing is written but a message on standard error. The text may have 1,048,576 bytes: eight times what any batch needs whose records
 // do not overlap.
 pub fn unpack() {
     let mut text = [0u8; 1048576];
