@@ -1,8 +1,8 @@
 -- Laws of what the programs say: a message that was put, and what is said of lines that were packed and of a batch that was unpacked.
-use mathlib.Core.Path.{_≡_, refl, sym, ap, ap₂, _∙_, subst}
+use mathlib.Core.Path.{_≡_, refl, sym, ap, _∙_, subst}
 use mathlib.Core.List.{List, [], _++_}
 use mathlib.Core.Bool.{Bool, true, false, cond, _&&_}
-use Prim.Native.Nat.{ℕ, _+_, _≤_, _<_}
+use Prim.Native.Nat.{ℕ, _+_, _≤_}
 use native.Mathlib.Omega.{arith}
 use lib.Dec.{leb, eqb}
 use lib.ListN.{length, length-append}
@@ -13,10 +13,9 @@ use Rattle.batch.specs.Chain.{isBatch, Chain, chainOf}
 use Rattle.batch.specs.Packing.{packed}
 use Rattle.batch.proofs.ChainLaws.{chain-is, records-few}
 use Rattle.console.specs.declared.input.Stream.{Stream}
-use Rattle.console.specs.declared.input.Stream.the-variants.{All, Failed, Full}
 use Rattle.console.specs.declared.output.Said.{Said}
 use Rattle.console.specs.declared.output.Said.the-variants.{Out, Err}
-use Rattle.console.specs.Output.{ascii, Saying, out, err, sayingOf, SaidPost}
+use Rattle.console.specs.Output.{ascii, Saying, out, err, SaidPost}
 use Rattle.console.specs.Numbers.{decimalText}
 use Rattle.console.proofs.NumberLaws.{decimal-short}
 use Rattle.console.proofs.OutputLaws.{said-out, said-err}

@@ -28,7 +28,7 @@ fn unpack_into(text: &mut [u8])
     output::say(b"unpack", said, &text[..]);
 }
 
-// The length of a reference's array is known by its type: of an array of a million bytes it takes the checker too deep.
+// Here the length is known by the type. That of the array itself the checker would count out byte by byte, and of a million it cannot.
 fn unpack_array(text: &mut [u8; 1048576]) {
     unpack_into(text);
 }

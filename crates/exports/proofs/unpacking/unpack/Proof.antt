@@ -1,9 +1,6 @@
 -- The walk, the length of the text, and the text (`unpack-broken`, `unpack-long`, `unpack-text`).
-use mathlib.Core.Path.{sym, ap, _∙_}
-use mathlib.Core.List.{List}
-use Prim.Native.Nat.{ℕ}
+use mathlib.Core.Path.{sym, _∙_}
 use native.Mathlib.Omega.{arith}
-use lib.ListN.{length}
 use lib.Seq.{length-take-le}
 use denote.Ref.{now}
 use Rattle.batch.proofs.ChainLaws.{records-few}
