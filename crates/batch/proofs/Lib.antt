@@ -2,4 +2,5 @@
 pub mod ChainLaws
 pub mod ClosingLaws
 pub mod PackingLaws
+pub mod NoBatchLaws
 pub mod UnpackingLaws

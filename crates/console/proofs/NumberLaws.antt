@@ -38,6 +38,17 @@ figures-few (suc k) n =
     (λ (h : 10 ≤ n). let e = figures-more k n h in let i = figures-few k (n / 10) in omega arith)
     (side n 10)
 
+-- A number below 10^j has no more than j digits, and one that is 0 has one.
+pub figures-short : (k j n : ℕ) → n < 10 ^ suc j → figures k n ≤ suc j
+unfolding figures
+figures-short zero j n h = omega arith
+figures-short (suc k) zero n h = let p : 10 ^ suc 0 ≡ 10 = refl in let e = figures-one k n (omega arith) in omega arith
+figures-short (suc k) (suc j) n h =
+    ⊎-elim
+    (λ (l : n < 10). let e = figures-one k n l in omega arith)
+    (λ (l : 10 ≤ n). let e = figures-more k n l in let p = pow-suc 10 (suc j) in let i = figures-short k j (n / 10) (omega arith) in omega arith)
+    (side n 10)
+
 -- One digit more, of a number that has at least two.
 one-more : (n m : ℕ) → 10 ≤ n → Fewest 10 1 (n / 10) m → Fewest 10 1 n (1 + m)
 one-more n m h f = (omega arith, below, least)

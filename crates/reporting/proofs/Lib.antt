@@ -1,4 +1,4 @@
 -- The laws of the text of a report.
 pub mod NumberLaws
 pub mod TextLaws
-pub mod PieceLaws
+pub mod ReportLaws

@@ -10,7 +10,7 @@ use borrow.Author.Tests.{lt-ltb, le-ltb}
 use Rattle.console.specs.Numbers.{figures, decimalText}
 use Rattle.console.specs.Output.{Decimal, SignedBy, Signed}
 use Rattle.console.proofs.InputLaws.{side}
-use Rattle.console.proofs.NumberLaws.{digits-length, figures-few, decimal-is, decimal-one}
+use Rattle.console.proofs.NumberLaws.{digits-length, figures-few, figures-short, decimal-is, decimal-one}
 use Rattle.reporting.specs.Numbers.{signedText, numberText}
 
 module _ (v : ℕ) where
@@ -62,3 +62,9 @@ module _ (v : ℕ) where
   pub number-length : (end : ℕ) → length (numberText v end) ≤ 22
   unfolding numberText
   number-length end = let e : length (signedText v ++ end ∷ []) ≡ length (signedText v) + 1 = length-append (signedText v) (end ∷ []) in let f = signed-length in omega arith
+
+  -- Of a number below 10^j that has no sign.
+  pub number-short : (end j : ℕ) → v < 10 ^ suc j → v < 2 ^ 63 → length (numberText v end) ≤ j + 2
+  unfolding numberText
+  number-short end j few l =
+      omega (arith, length-append (signedText v) (end ∷ []), ap length (signed-low l) ∙ digits-length (figures 20 v) v, figures-short 20 j v few)

@@ -1,5 +1,5 @@
 -- The definitions of what is printed of a batch.
 pub mod Numbers
 pub mod Text
-pub mod Pieces
+pub mod Report
 pub mod Examples

@@ -36,7 +36,9 @@ fn batch_line(line: &[u8]) {
         text::bad_case();
         return;
     };
-    reporting::roll_batch(&batch[..n]);
+    let mut text = [0u8; 800000];
+    let len = reporting::roll_batch(&batch[..n], &mut text);
+    io::write_all(STDOUT_FILENO, &text[..len]);
 }
 
 // A line that starts with `#` is a remark. One with no bytes is a batch with none.

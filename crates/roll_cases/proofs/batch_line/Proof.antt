@@ -1,4 +1,4 @@
--- `batch_line` is safe: the count that `expand` answers lies inside the buffer.
+-- `batch_line` is safe: the counts that `expand` and `roll_batch` answer lie inside their buffers.
 use Rattle.roll_cases.proofs.ExpandingLaws.{expanded}
 use borrow.Author.Needs.{needs}
 use Rattle.roll_cases.proofs.batch_line.Statement.{statement}
@@ -34,6 +34,15 @@ slice-aggregate-roll-batch c = expanded _ _ _ (c .before .before .before .before
 roll-batch-requires : tie.Need-roll-batch-requires
 roll-batch-requires c κs = search needs
 
+array-share-prefix-text : tie.Need-array-share-prefix-text
+array-share-prefix-text c = c .roll-batch .ensures .counts .0
+
+slice-aggregate-write-all : tie.Need-slice-aggregate-write-all
+slice-aggregate-write-all c = c .before .roll-batch .ensures .counts .1
+
+write-all-requires : tie.Need-write-all-requires
+write-all-requires c κs = search needs
+
 returns-2 : tie.Need-returns-2
 returns-2 c = search needs
 
@@ -51,4 +60,7 @@ batch-line-spec =
     array-share-prefix-batch
     slice-aggregate-roll-batch
     roll-batch-requires
+    array-share-prefix-text
+    slice-aggregate-write-all
+    write-all-requires
     returns-2)

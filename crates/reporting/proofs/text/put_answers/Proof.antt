@@ -1,27 +1,23 @@
--- `put_answers` meets its contract: what is left are the lines of the records from i on, and a line takes 44 bytes at most.
+-- `put_answers` meets its contract: what is left are the lines of the records from i on, and a line takes 10 bytes at most.
 use Prim.Native.Nat.{ℕ, _+_, _*_, _-_, _≤_}
-use mathlib.Core.Path.{_≡_, _∙_, subst}
-use mathlib.Core.List.{List}
+use mathlib.Core.Path.{_≡_, refl, _∙_}
 use native.Mathlib.Omega.{arith}
 use lib.ListN.{length, drop, getD}
 use denote.Ref.{now}
 use Rattle.reporting.specs.Text.{answerLines}
-use Rattle.reporting.proofs.TextLaws.{Going, going-start, going-put, going-end, lines-start, lines-more, lines-end, answer-length}
+use Rattle.reporting.proofs.TextLaws.{Going, going-start, going-put, going-end, lines-more, lines-end, line-length}
 use borrow.Author.Needs.{needs}
 use Rattle.reporting.proofs.text.put_answers.Statement.{statement}
 use Rattle.reporting.proofs.text.put_answers.Tie as tie
 
 abbrev Inv-loop : tie.InvT-loop
-Inv-loop text₀ answers first at₀ i₀ text at i = (Going text₀ (answerLines first answers) text at (answerLines (first + i) (drop i answers))) × (at ≤ 44 * i) × (i ≤ length answers) × (length text ≡ length text₀)
+Inv-loop text₀ answers at₀ i₀ text at i = (Going text₀ (answerLines 1 answers) text at (answerLines (1 + i) (drop i answers))) × (at ≤ 10 * i) × (i ≤ length answers) × (length text ≡ length text₀)
 
 abbrev μ-loop : tie.MeasureT-loop
-μ-loop text₀ answers first at₀ i₀ text at i = length answers - i
+μ-loop text₀ answers at₀ i₀ text at i = length answers - i
 
 loop-holds : tie.Need-loop-holds Inv-loop μ-loop
-loop-holds c =
-    let a = now (c .before .before .args .answers) in
-    let f = c .before .before .args .first in
-    (subst (λ (l : List ℕ). Going (now (c .before .before .args .text)) (answerLines f a) (now (c .before .before .args .text)) 0 l) (lines-start f a) (going-start (now (c .before .before .args .text)) (answerLines f a)), omega arith, omega arith, search needs)
+loop-holds c = let o = c .before .before in (going-start (now (o .args .text)) (answerLines 1 (now (o .args .answers))), omega arith, omega arith, refl)
 
 add-put-answer : tie.Need-add-put-answer Inv-loop μ-loop
 add-put-answer c = search needs
@@ -41,15 +37,14 @@ loop-less c = search needs
 loop-again : tie.Need-loop-again Inv-loop μ-loop
 loop-again c =
     let a = now (c .before .before .before .before .before .before .before .before .before .args .answers) in
-    let f = c .before .before .before .before .before .before .before .before .before .args .first in
     let l = c .before .before .before .before .before .before .loop in
-    (going-put (lines-more f a (l .i) (c .before .before .before .before .before .loop-test .taken)) (c .before .before .put-answer .ensures) (l .inv .0), omega (arith, c .before .before .put-answer .ensures .next, answer-length (f + l .i) (getD a (l .i) 0), l .inv .1), omega arith, c .before .before .put-answer .kept .0 ∙ l .inv .3)
+    (going-put (lines-more a (l .i) (c .before .before .before .before .before .loop-test .taken)) (c .before .before .put-answer .ensures) (l .inv .0), omega (arith, c .before .before .put-answer .ensures .next, line-length (1 + l .i) (getD a (l .i) 0) (omega arith) (omega (arith, c .before .before .before .before .before .before .before .shared-slice-known .given (l .i))), l .inv .1), omega arith, c .before .before .put-answer .kept .0 ∙ l .inv .3)
 
 same-length : tie.Need-same-length Inv-loop μ-loop
 same-length c = search needs
 
 returns : tie.Need-returns Inv-loop μ-loop
-returns c = going-end (lines-end (c .before .before .before .before .args .first) (now (c .before .before .before .before .args .answers)) (c .before .loop .i) (omega arith)) (c .before .loop .inv .0)
+returns c = let l = c .before .loop in (going-end (lines-end (now (c .before .before .before .before .args .answers)) (l .i) (omega arith)) (l .inv .0), omega arith)
 
 pub put-answers-spec : {M : Type 1} → statement M
 put-answers-spec =

@@ -1,7 +1,7 @@
 -- `put_ending` meets its contract: a line for a refusal, else nothing.
+use denote.Ref.{now}
 use Rattle.wire.proofs.EncodingLaws.{put-same, put-none}
 use Rattle.reporting.proofs.TextLaws.{ending-none, ending-full, ending-24, ending-other}
-use denote.Ref.{now}
 use borrow.Author.Needs.{needs}
 use Rattle.reporting.proofs.text.put_ending.Statement.{statement}
 use Rattle.reporting.proofs.text.put_ending.Tie as tie
@@ -31,7 +31,7 @@ enum-told-2 : tie.Need-enum-told-2
 enum-told-2 c = search needs
 
 returns-2 : tie.Need-returns-2
-returns-2 c = put-none (now (c .before .before .before .args .text)) 0 (ending-none (c .before .before .before .args .records) (c .enum-told .given .1))
+returns-2 c = let o = c .before .before .before in put-none (now (o .args .text)) (o .args .at) (ending-none (o .args .records) (c .enum-told .given .1))
 
 same-length-2 : tie.Need-same-length-2
 same-length-2 c = search needs
@@ -40,7 +40,7 @@ returns-3 : tie.Need-returns-3
 returns-3 c = put-same (ending-other (c .before .before .before .before .before .before .before .before .before .args .records) (c .before .before .before .before .before .before .ending .given .1) (c .before .before .before .before .if1 .left)) (c .before .before .put-answer2 .ensures)
 
 returns-4 : tie.Need-returns-4
-returns-4 c = put-none (now (c .before .before .before .args .text)) 0 (ending-full (c .before .before .before .args .records) (c .enum-told2 .given .1))
+returns-4 c = let o = c .before .before .before in put-none (now (o .args .text)) (o .args .at) (ending-full (o .args .records) (c .enum-told2 .given .1))
 
 pub put-ending-spec : {M : Type 1} → statement M
 put-ending-spec =

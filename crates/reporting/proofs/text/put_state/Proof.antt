@@ -1,9 +1,13 @@
--- `put_state` meets its contract: the number of the refusal, 2,048 bytes in hexadecimal, or those that are left and a newline.
-use Prim.Native.Nat.{_+_, _-_}
+-- `put_state` meets its contract: the bytes in hexadecimal with a newline behind them, or a number.
+use Prim.Native.Nat.{_-_}
+use mathlib.Core.Path.{sym}
 use native.Mathlib.Omega.{arith}
-use lib.ListN.{drop}
+use lib.ListN.{length, take}
+use lib.Seq.{length-take-le}
 use denote.Ref.{now}
-use Rattle.reporting.proofs.PieceLaws.{hex-room, state-refused, state-more, state-last}
+use borrow.Rule.Slice.PartMut.{mid-len}
+use Rattle.wire.proofs.EncodingLaws.{put-same}
+use Rattle.reporting.proofs.TextLaws.{state-refused, state-written, hex-room, hex-put}
 use borrow.Author.Needs.{needs}
 use Rattle.reporting.proofs.text.put_state.Statement.{statement}
 use Rattle.reporting.proofs.text.put_state.Tie as tie
@@ -18,13 +22,10 @@ same-length : tie.Need-same-length
 same-length c = search needs
 
 returns : tie.Need-returns
-returns c answers = state-refused (c .before .before .before .before .before .before .before .before .before .before .args .r) answers (now (c .before .before .before .before .before .before .before .before .before .before .args .out)) (c .before .before .before .before .before .before .before .before .before .before .args .i) (c .before .before .before .before .before .if1 .taken) (omega arith) (c .before .before .put-number .ensures)
+returns c = let o = c .before .before .before .before .before .before .before .before .before in put-same (state-refused (take (o .args .written .len) (now (o .args .out))) (c .before .before .before .before .before .if1 .taken)) (c .before .before .put-number .ensures)
 
-sub-if2 : tie.Need-sub-if2
-sub-if2 c = search needs
-
-add-end : tie.Need-add-end
-add-end c = search needs
+slice-aggregate-hex : tie.Need-slice-aggregate-hex
+slice-aggregate-hex c = let o = c .before .before .before .before .before in sym (length-take-le (o .args .written .len) (now (o .args .out)) (o .pre .0))
 
 sub-hex : tie.Need-sub-hex
 sub-hex c = search needs
@@ -36,37 +37,26 @@ part-hex-end : tie.Need-part-hex-end
 part-hex-end c = search needs
 
 hex-requires : tie.Need-hex-requires
-hex-requires c κs = search needs
+hex-requires c κs = let o = c .before .before .before .before .before .before in omega (arith, length-take-le (o .args .written .len) (now (o .args .out)) (o .pre .0), mid-len (o .args .at) (length (now (o .args .text))) (now (o .args .text)) (omega arith), o .pre .1)
+
+add-n : tie.Need-add-n
+add-n c = search needs
+
+slice-write-text : tie.Need-slice-write-text
+slice-write-text c = let o = c .before .before .before .before .before .before .before .before .before in omega (arith, length-take-le (o .args .written .len) (now (o .args .out)) (o .pre .0), hex-room (c .before .before .hex .ensures), o .pre .1, c .before .text2 .given)
+
+add-result : tie.Need-add-result
+add-result c = search needs
 
 same-length-2 : tie.Need-same-length-2
 same-length-2 c = search needs
 
 returns-2 : tie.Need-returns-2
-returns-2 c answers = state-more (c .before .before .before .before .before .before .before .before .before .before .before .args .r) answers (now (c .before .before .before .before .before .before .before .before .before .before .before .args .out)) (c .before .before .before .before .before .before .before .before .before .before .before .args .i) (c .before .before .before .before .before .before .before .before .before .before .before .args .i + 2048 - c .before .before .before .before .before .before .before .before .before .before .before .args .i) (omega arith) (omega arith) (c .before .before .before .before .before .before .before .before .before .before .before .pre .1) (c .before .before .before .before .before .before .before .before .before .before .before .args .i + 2048) (omega arith) (omega arith) (c .before .before .hex .ensures)
-
-sub-hex-2 : tie.Need-sub-hex-2
-sub-hex-2 c = search needs
-
-part-hex-start-2 : tie.Need-part-hex-start-2
-part-hex-start-2 c = search needs
-
-part-hex-end-2 : tie.Need-part-hex-end-2
-part-hex-end-2 c = search needs
-
-hex-requires-2 : tie.Need-hex-requires-2
-hex-requires-2 c κs = search needs
-
-slice-write-text : tie.Need-slice-write-text
-slice-write-text c = hex-room (drop (c .before .before .before .before .before .before .before .before .before .before .before .args .i) (now (c .before .before .before .before .before .before .before .before .before .before .before .args .out))) (c .before .before .before .before .before .before .before .before .before .before .before .args .r .written .len - c .before .before .before .before .before .before .before .before .before .before .before .args .i) (omega arith) (c .before .before .before .before .before .before .before .before .before .before .before .pre .2) (c .before .before .hex2 .kept .1 .0) (c .before .before .hex2 .ensures)
-
-add-len : tie.Need-add-len
-add-len c = search needs
-
-same-length-3 : tie.Need-same-length-3
-same-length-3 c = search needs
-
-returns-3 : tie.Need-returns-3
-returns-3 c answers = state-last (c .before .before .before .before .before .before .before .before .before .before .before .args .r) answers (now (c .before .before .before .before .before .before .before .before .before .before .before .args .out)) (c .before .before .before .before .before .before .before .before .before .before .before .args .i) (omega arith) (c .before .before .before .before .before .before .before .before .before .before .before .args .r .written .len - c .before .before .before .before .before .before .before .before .before .before .before .args .i) (omega arith) (c .before .before .before .before .before .before .before .before .before .before .before .pre .1) (omega arith) (hex-room (drop (c .before .before .before .before .before .before .before .before .before .before .before .args .i) (now (c .before .before .before .before .before .before .before .before .before .before .before .args .out))) (c .before .before .before .before .before .before .before .before .before .before .before .args .r .written .len - c .before .before .before .before .before .before .before .before .before .before .before .args .i) (omega arith) (c .before .before .before .before .before .before .before .before .before .before .before .pre .2) (c .before .before .hex2 .kept .1 .0) (c .before .before .hex2 .ensures)) (c .before .before .hex2 .ensures)
+returns-2 c =
+    let o = c .before .before .before .before .before .before .before .before .before in
+    let t = now (o .args .text) in
+    let s = take (o .args .written .len) (now (o .args .out)) in
+    put-same (state-written s (c .before .before .before .before .before .if1 .left)) (hex-put t (c .before .before .hex .last .1 .0) s (o .args .at) (c .before .before .hex .result) (length t - o .args .at) (omega arith) (omega (arith, length-take-le (o .args .written .len) (now (o .args .out)) (o .pre .0))) (c .before .before .hex .ensures))
 
 pub put-state-spec : {M : Type 1} → statement M
 put-state-spec =
@@ -76,19 +66,13 @@ put-state-spec =
     put-number-requires
     same-length
     returns
-    sub-if2
-    add-end
+    slice-aggregate-hex
     sub-hex
     part-hex-start
     part-hex-end
     hex-requires
-    same-length-2
-    returns-2
-    sub-hex-2
-    part-hex-start-2
-    part-hex-end-2
-    hex-requires-2
+    add-n
     slice-write-text
-    add-len
-    same-length-3
-    returns-3)
+    add-result
+    same-length-2
+    returns-2)
