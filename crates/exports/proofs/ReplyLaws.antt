@@ -70,12 +70,12 @@ module _ (lines : List ℕ) {spare before : List ℕ} {r : Packed} {left now : L
   same-size = ap (λ (l : List ℕ). length l) (post .output) ∙ length-sets before 0 (packed (packingOf (length before) lines .states))
 
   pub batch-said : (n : ℕ) → r ≡ Batch n → PackReply (linesSay lines) spare before (Out n) left now
-  batch-said n e = record { says = ap out (made-bytes e post) ∙ sym (lines-say e); counts = made-counts e post; free = (post .free, same-size) }
+  batch-said n e = record { said = (ap out (made-bytes e post) ∙ sym (lines-say e), made-counts e post); free = (post .free, same-size) }
 
   -- A message, over the batch of the lines before.
   pub line-said : {known : Packed} {w : Saying} {said : Said} {after : List ℕ} → r ≡ known → packedSays known batch ≡ w → length after ≡ length now
       → SaidPost w now said after → PackReply (linesSay lines) spare before said left after
-  line-said e f kept s = record { says = s .says ∙ sym (lines-say e ∙ f); counts = s .counts; free = (post .free, kept ∙ same-size) }
+  line-said e f kept s = record { said = (s .says ∙ sym (lines-say e ∙ f), s .counts); free = (post .free, kept ∙ same-size) }
 
 -- By the stream.
 pub pack-said : (buf : List ℕ) {stream known : Stream} {spare before left after : List ℕ} {r : Said} → stream ≡ known → PackReply (packSays known buf) spare before r left after
@@ -84,7 +84,7 @@ pack-said buf {spare = spare} {before} {left} {after} {r} e p = subst (λ (x : S
 
 -- A message in the place of a batch.
 pub pack-complained : {w : Saying} {spare before after : List ℕ} {r : Said} → length after ≡ length before → SaidPost w before r after → PackReply w spare before r spare after
-pack-complained e s = record { says = s .says; counts = s .counts; free = (refl, e) }
+pack-complained e s = record { said = (s .says, s .counts); free = (refl, e) }
 
 -- ---- unpack
 
