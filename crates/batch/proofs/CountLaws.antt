@@ -7,11 +7,11 @@ use mathlib.Core.Bool.{Bool, true, false, cond}
 use mathlib.Core.Logic.{_⊎_, inl, inr, ⊎-elim}
 use native.Mathlib.Omega.{arith}
 use lib.Dec.{eqb}
-use lib.ListN.{length, getD, take, length-take}
+use lib.ListN.{length, getD, take, length-take, length-map}
 use Rattle.wire.proofs.VarintLaws.{side}
 use Rattle.rollup.specs.Accumulator.{Mem}
 use Rattle.batch.specs.declared.closing.Report.{Report}
-use Rattle.batch.specs.Chain.{wordAt, nextAt, stateAt, isRecord, Chain, ends, onto, chainFrom, isBatch, chainOf}
+use Rattle.batch.specs.Chain.{wordAt, nextAt, stateAt, isRecord, Chain, ends, onto, chainFrom, isBatch, chainOf, statesOf}
 use Rattle.batch.specs.Closing.{ReportPost}
 use Rattle.batch.proofs.ChainLaws.{Inside, record-inside, batch-size, chain-is}
 
@@ -41,18 +41,18 @@ module _ (b : List ℕ) (byte : (k : ℕ) → getD b k 0 < 256) (short : length 
           (side j (i + 3))
 
   abbrev count : ℕ → ℕ → ℕ → ℕ
-  count n before i = length (chainFrom n b before i .states)
+  count n before i = length (chainFrom n b before i .indices)
 
   opened : (n before i : ℕ) → (count (suc n) before i ≡ 0) ⊎ (Inside b before i × (count (suc n) before i ≡ suc (count n i (nextAt b i))))
   unfolding chainFrom
   opened n before i = go (eqb i 0) (isRecord b before i) refl
     where
       rest : Chain
-      rest = onto (stateAt b i) (chainFrom n b i (nextAt b i))
+      rest = onto i (chainFrom n b i (nextAt b i))
 
       go : (x y : Bool) → isRecord b before i ≡ y
-          → (length (cond x (ends 0) (cond y rest (ends 25)) .states) ≡ 0)
-          ⊎ (Inside b before i × (length (cond x (ends 0) (cond y rest (ends 25)) .states) ≡ suc (count n i (nextAt b i))))
+          → (length (cond x (ends 0) (cond y rest (ends 25)) .indices) ≡ 0)
+          ⊎ (Inside b before i × (length (cond x (ends 0) (cond y rest (ends 25)) .indices) ≡ suc (count n i (nextAt b i))))
       go true y e = inl refl
       go false false e = inl refl
       go false true e = inr (record-inside b before i e, refl)
@@ -88,18 +88,18 @@ module _ (b : List ℕ) (byte : (k : ℕ) → getD b k 0 < 256) (short : length 
           (λ (l : count n i (nextAt b i) ≤ 1). omega (arith, p .inside))
           (side 1 (count n i (nextAt b i)))
 
-pub records-few : (b : List ℕ) → ((k : ℕ) → getD b k 0 < 256) → length (chainOf b .states) ≤ 21844
+pub records-few : (b : List ℕ) → ((k : ℕ) → getD b k 0 < 256) → length (chainOf b .indices) ≤ 21844
 records-few b byte = go (isBatch b) refl
   where
-    go : (t : Bool) → isBatch b ≡ t → length (chainOf b .states) ≤ 21844
+    go : (t : Bool) → isBatch b ≡ t → length (chainOf b .indices) ≤ 21844
     go true e =
         ⊎-elim
-        (λ h. omega (arith, h, ap (λ (c : Chain). length (c .states)) (chain-is b e)))
-        (λ h. omega (arith, h, ap (λ (c : Chain). length (c .states)) (chain-is b e)))
+        (λ h. omega (arith, h, ap (λ (c : Chain). length (c .indices)) (chain-is b e)))
+        (λ h. omega (arith, h, ap (λ (c : Chain). length (c .indices)) (chain-is b e)))
         (few b byte (batch-size b e .1) (length b) 0 (wordAt b 0))
-    go false e = omega (arith, ap (λ (c : Chain). length (c .states)) (chain-is b e))
+    go false e = omega (arith, ap (λ (c : Chain). length (c .indices)) (chain-is b e))
 
 -- So a report has no more, whatever cells are lent for the answers.
 pub reported-few : {batch : List ℕ} {first : Mem} {room : ℕ} {old : List ℕ} {space : ℕ} {out : List ℕ} {r : Report} {m : Mem} {answers after : List ℕ}
     → ((k : ℕ) → getD batch k 0 < 256) → ReportPost batch first room old space out r m answers after → r .rolled .records ≤ 21844
-reported-few {batch} {old = old} byte p = omega (arith, p .rolled .records, length-take (length old) (chainOf batch .states), records-few batch byte)
+reported-few {batch} {old = old} byte p = omega (arith, p .rolled .records, length-take (length old) (statesOf batch), length-map (chainOf batch .indices) (stateAt batch), records-few batch byte)

@@ -11,7 +11,7 @@ use borrow.Author.Tests.{eq-eqb, ne-eqb, le-leb, lt-leb, leb-true}
 use Rattle.wire.specs.Varints.{PutPost}
 use Rattle.batch.specs.Chain.{isBatch, Chain, chainOf}
 use Rattle.batch.specs.Packing.{packed}
-use Rattle.batch.proofs.ChainLaws.{chain-is, records-few}
+use Rattle.batch.proofs.ChainLaws.{chain-is, chain-short}
 use Rattle.console.specs.declared.input.Stream.{Stream}
 use Rattle.console.specs.declared.output.Said.{Said}
 use Rattle.console.specs.declared.output.Said.the-variants.{Out, Err}
@@ -132,7 +132,7 @@ module _ {batch cells before : List ℕ} {r : Unpacked} {indices now : List ℕ}
           → records ≤ 65536
       by true true g = absurd (let z : _≡_ {A = ℕ} 0 1 = cc in omega arith)
       by true false g = absurd (let z : _≡_ {A = ℕ} 0 1 = cc in omega arith)
-      by false t g = let z : records ≡ length (chainOf batch .indices) = cc in omega (arith, records-few batch)
+      by false t g = let z : records ≡ length (chainOf batch .indices) = cc in omega (arith, chain-short batch)
 
 pub unpack-said : (buf : List ℕ) {stream known : Stream} {cells before indices after : List ℕ} {r : Said} → stream ≡ known → UnpackReply (unpackSays known buf) cells before r indices after
     → UnpackReply (unpackSays stream buf) cells before r indices after
