@@ -135,8 +135,8 @@ unfolding chainOf
 chain-is b e = ap (λ (t : Bool). cond t (chainFrom (length b) b 0 (wordAt b 0)) (ends 24)) e
 
 -- So no bytes have a chain of more than 65,536 records ..
-pub records-few : (b : List ℕ) → length (chainOf b .indices) ≤ 65536
-records-few b = go (isBatch b) refl
+pub chain-short : (b : List ℕ) → length (chainOf b .indices) ≤ 65536
+chain-short b = go (isBatch b) refl
   where
     go : (t : Bool) → isBatch b ≡ t → length (chainOf b .indices) ≤ 65536
     go true f = omega (arith, ap (λ (c : Chain). length (c .indices)) (chain-is b f), chain-few (length b) b 0 (wordAt b 0), batch-size b f .1)
@@ -144,7 +144,7 @@ records-few b = go (isBatch b) refl
 
 -- .. and as many cells suffice for the answers.
 pub never-full : (b : List ℕ) (cells : ℕ) → 65536 ≤ cells → endingFor (chainOf b) cells ≡ Full → ⊥
-never-full b cells h e = few (omega (arith, records-few b))
+never-full b cells h e = few (omega (arith, chain-short b))
   where
     whole : Ending → Bool
     whole Whole = true

@@ -17,7 +17,7 @@ use Rattle.rollup.proofs.WriteLaws.{write-fresh}
 use Rattle.batch.specs.declared.records.Ending.the-variants.{Refused, Full}
 use Rattle.batch.specs.declared.closing.Count.the-variants.{Registers}
 use Rattle.batch.specs.declared.closing.Report.{Report}
-use Rattle.batch.specs.Chain.{Chain, stateAt, isBatch, chainOf}
+use Rattle.batch.specs.Chain.{stateAt, Chain, isBatch}
 use Rattle.batch.specs.Batch.{addedAll, endingFor, statesFor}
 use Rattle.batch.specs.Closing.{countFor, ReportPost}
 use Rattle.batch.proofs.ChainLaws.{chain-is}

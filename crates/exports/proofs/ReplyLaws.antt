@@ -1,8 +1,8 @@
 -- Laws of what the programs say: a message that was put, and what is said of lines that were packed and of a batch that was unpacked.
-use mathlib.Core.Path.{_≡_, refl, sym, ap, ap₂, _∙_, subst}
+use mathlib.Core.Path.{_≡_, refl, sym, ap, _∙_, subst}
 use mathlib.Core.List.{List, [], _++_}
 use mathlib.Core.Bool.{Bool, true, false, cond, _&&_}
-use Prim.Native.Nat.{ℕ, _+_, _≤_, _<_}
+use Prim.Native.Nat.{ℕ, _+_, _≤_}
 use native.Mathlib.Omega.{arith}
 use lib.Dec.{leb, eqb}
 use lib.ListN.{length, length-append}
@@ -11,12 +11,11 @@ use borrow.Author.Tests.{eq-eqb, ne-eqb, le-leb, lt-leb, leb-true}
 use Rattle.wire.specs.Varints.{PutPost}
 use Rattle.batch.specs.Chain.{isBatch, Chain, chainOf}
 use Rattle.batch.specs.Packing.{packed}
-use Rattle.batch.proofs.ChainLaws.{chain-is, records-few}
+use Rattle.batch.proofs.ChainLaws.{chain-is, chain-short}
 use Rattle.console.specs.declared.input.Stream.{Stream}
-use Rattle.console.specs.declared.input.Stream.the-variants.{All, Failed, Full}
 use Rattle.console.specs.declared.output.Said.{Said}
 use Rattle.console.specs.declared.output.Said.the-variants.{Out, Err}
-use Rattle.console.specs.Output.{ascii, Saying, out, err, sayingOf, SaidPost}
+use Rattle.console.specs.Output.{ascii, Saying, out, err, SaidPost}
 use Rattle.console.specs.Numbers.{decimalText}
 use Rattle.console.proofs.NumberLaws.{decimal-short}
 use Rattle.console.proofs.OutputLaws.{said-out, said-err}
@@ -71,12 +70,12 @@ module _ (lines : List ℕ) {spare before : List ℕ} {r : Packed} {left now : L
   same-size = ap (λ (l : List ℕ). length l) (post .output) ∙ length-sets before 0 (packed (packingOf (length before) lines .states))
 
   pub batch-said : (n : ℕ) → r ≡ Batch n → PackReply (linesSay lines) spare before (Out n) left now
-  batch-said n e = record { says = ap out (made-bytes e post) ∙ sym (lines-say e); counts = made-counts e post; free = (post .free, same-size) }
+  batch-said n e = record { said = (ap out (made-bytes e post) ∙ sym (lines-say e), made-counts e post); free = (post .free, same-size) }
 
   -- A message, over the batch of the lines before.
   pub line-said : {known : Packed} {w : Saying} {said : Said} {after : List ℕ} → r ≡ known → packedSays known batch ≡ w → length after ≡ length now
       → SaidPost w now said after → PackReply (linesSay lines) spare before said left after
-  line-said e f kept s = record { says = s .says ∙ sym (lines-say e ∙ f); counts = s .counts; free = (post .free, kept ∙ same-size) }
+  line-said e f kept s = record { said = (s .says ∙ sym (lines-say e ∙ f), s .counts); free = (post .free, kept ∙ same-size) }
 
 -- By the stream.
 pub pack-said : (buf : List ℕ) {stream known : Stream} {spare before left after : List ℕ} {r : Said} → stream ≡ known → PackReply (packSays known buf) spare before r left after
@@ -85,7 +84,7 @@ pack-said buf {spare = spare} {before} {left} {after} {r} e p = subst (λ (x : S
 
 -- A message in the place of a batch.
 pub pack-complained : {w : Saying} {spare before after : List ℕ} {r : Said} → length after ≡ length before → SaidPost w before r after → PackReply w spare before r spare after
-pack-complained e s = record { says = s .says; counts = s .counts; free = (refl, e) }
+pack-complained e s = record { said = (s .says, s .counts); free = (refl, e) }
 
 -- ---- unpack
 
@@ -133,7 +132,7 @@ module _ {batch cells before : List ℕ} {r : Unpacked} {indices now : List ℕ}
           → records ≤ 65536
       by true true g = absurd (let z : _≡_ {A = ℕ} 0 1 = cc in omega arith)
       by true false g = absurd (let z : _≡_ {A = ℕ} 0 1 = cc in omega arith)
-      by false t g = let z : records ≡ length (chainOf batch .indices) = cc in omega (arith, records-few batch)
+      by false t g = let z : records ≡ length (chainOf batch .indices) = cc in omega (arith, chain-short batch)
 
 pub unpack-said : (buf : List ℕ) {stream known : Stream} {cells before indices after : List ℕ} {r : Said} → stream ≡ known → UnpackReply (unpackSays known buf) cells before r indices after
     → UnpackReply (unpackSays stream buf) cells before r indices after

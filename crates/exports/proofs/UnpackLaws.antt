@@ -1,27 +1,26 @@
 -- Laws of the text of a batch: a line, the lines of the first k records, and what unpacking answers.
 use mathlib.Core.Path.{_≡_, refl, sym, ap, ap₂, _∙_, subst}
-use mathlib.Core.List.{List, [], _∷_, _++_, append-assoc, append-nil, map, map-append}
+use mathlib.Core.List.{List, [], _∷_, _++_, append-assoc, map, map-append}
 use mathlib.Core.Bool.{Bool, true, false, cond}
-use Prim.Native.Nat.{ℕ, suc, _+_, _*_, _-_, _<_, _≤_}
+use Prim.Native.Nat.{ℕ, _+_, _*_, _-_, _<_, _≤_}
 use native.Mathlib.Numerals.{add-one}
 use native.Mathlib.Omega.{arith}
-use lib.Dec.{leb, eqb}
+use lib.Dec.{leb}
 use lib.ListN.{length, take, drop, set, getD, length-append, take-append-drop}
-use lib.Seq.{sets, take-suc, take-all, length-take-le}
+use lib.Seq.{sets, take-suc, take-all}
 use borrow.Author.Tests.{le-leb, lt-leb, eq-eqb, ne-eqb}
 use borrow.Rule.Slice.PartMut.{midOf, putMid}
 use Rattle.wire.specs.Varints.{PutPost}
-use Rattle.wire.proofs.EncodingLaws.{sets-more, Two, two-length, put-both}
+use Rattle.wire.proofs.EncodingLaws.{sets-more, Two}
 use Rattle.batch.specs.declared.unpacking.Walked.{Walked}
-use Rattle.batch.specs.Chain.{stateAt, isBatch, Chain, chainOf, statesOf}
+use Rattle.batch.specs.Chain.{stateAt, isBatch, Chain, chainOf}
 use Rattle.batch.specs.Unpacking.{WalkedPost}
 use Rattle.batch.proofs.ChainLaws.{chain-is, batch-size}
 use Rattle.console.specs.Output.{hexText, HexPost}
 use Rattle.console.proofs.OutputLaws.{part-put}
-use Rattle.exports.specs.declared.unpacking.Unpacked.{Unpacked}
 use Rattle.exports.specs.declared.unpacking.Unpacked.the-variants.{Text, Broken, Long}
 use Rattle.exports.specs.Text.{lineOf, textOf}
-use Rattle.exports.specs.Unpacking.{batchText, unpackedOf, putOf, UnpackedPost}
+use Rattle.exports.specs.Unpacking.{batchText, unpackedOf, UnpackedPost}
 
 -- ---- a line
 

@@ -20,6 +20,10 @@ use Rattle.exports.specs.declared.unpacking.Unpacked.the-variants.{Text,
 use Rattle.exports.specs.Packing.{packingOf, packedOf}
 use Rattle.exports.specs.Unpacking.{batchText, unpackedOf}
 
+-- This is said at the front of the slice that is lent with it.
+abbrev pub Says : Saying → Said → List ℕ → Type 0
+Says w r text = (sayingOf r text ≡ w) × Counts (sizeOf r) text
+
 -- ---- pack
 
 -- What is wrong with a line, by its number.
@@ -51,8 +55,7 @@ pub record PackMemory (stream : Stream) (lines spare batch : List ℕ) : Type 0 
 
 -- This is said at the front of `after`. What is free is named in `free`: bytes past it, and `spare`, hold anything, and are as many as there were.
 pub record PackReply (w : Saying) (spare before : List ℕ) (r : Said) (left after : List ℕ) : Type 0 where
-  pub says : sayingOf r after ≡ w
-  pub counts : Counts (sizeOf r) after
+  pub said : Says w r after
   pub free : (length left ≡ length spare) × (length after ≡ length before)
 
 -- ---- unpack

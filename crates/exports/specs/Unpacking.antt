@@ -6,7 +6,6 @@ use Prim.Native.Nat.{ℕ}
 use lib.Dec.{leb, eqb}
 use lib.ListN.{length}
 use lib.Seq.{sets}
-use Rattle.batch.specs.declared.unpacking.Walked.{Walked}
 use Rattle.batch.specs.Chain.{chainOf, statesOf}
 use Rattle.batch.specs.Unpacking.{WalkedPost}
 use Rattle.exports.specs.declared.unpacking.Unpacked.{Unpacked}

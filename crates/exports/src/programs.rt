@@ -1,11 +1,21 @@
-// The programs. Each reads standard input, has a reply made, and writes it: that these calls read and write what they should is what no contract reaches.
+// The programs. Each reads standard input, has a reply made, and says it. What a read puts into the buffer, and what reaches a descriptor, no contract can
+// say; that what is said is the reply to this stream is asked where it is said.
 ghost use mathlib.Core.Path.{_≡_};
 ghost use lib.ListN.{length};
+ghost use Rattle.exports.specs.Replies.{packSays, unpackSays, Says};
 use crate::memory;
 use crate::replies;
 use console::input;
+use console::input::Stream;
 use console::output;
+use console::output::Said;
 use libc::STDIN_FILENO;
+
+fn tell_of_packing(stream: Stream, lines: &[u8], said: Said, batch: &[u8])
+    requires { ⌜ Says (packSays stream (now lines)) said (now batch) ⌝ }
+{
+    output::say(b"pack", said, batch);
+}
 
 // Packs states into a batch: a line of standard input for each, in hexadecimal or base64, and the batch on standard output. Where a line is bad, or the
 // batch would be too long, nothing is written but a message on standard error.
@@ -15,7 +25,13 @@ pub fn pack() {
     let mut spare = memory::text_bytes();
     let mut batch = io::large_buffer();
     let said = replies::pack_reply(stream, &lines, &mut spare, &mut batch);
-    output::say(b"pack", said, &batch);
+    tell_of_packing(stream, &lines, said, &batch);
+}
+
+fn tell_of_unpacking(stream: Stream, batch: &[u8], said: Said, text: &[u8])
+    requires { ⌜ Says (unpackSays stream (now batch)) said (now text) ⌝ }
+{
+    output::say(b"unpack", said, text);
 }
 
 fn unpack_into(text: &mut [u8])
@@ -25,16 +41,16 @@ fn unpack_into(text: &mut [u8])
     let stream = input::read_all(STDIN_FILENO, &mut batch);
     let mut indices = memory::index_cells();
     let said = replies::unpack_reply(stream, &batch, &mut indices, text);
-    output::say(b"unpack", said, &text[..]);
+    tell_of_unpacking(stream, &batch, said, &text[..]);
 }
 
-// The length of a reference's array is known by its type: of an array of a million bytes it takes the checker too deep.
+// Here the length is known by the type. That of the array itself the checker would count out byte by byte, and of a million it cannot.
 fn unpack_array(text: &mut [u8; 1048576]) {
     unpack_into(text);
 }
 
 // Unpacks a batch: its bytes on standard input, and a line of lowercase hexadecimal on standard output for each state, in the order of the chain. Where the
-// chain is broken, nothing is written but a message on standard error. The text may have 1,048,576 bytes: seven times what any batch needs whose records
+// chain is broken, nothing is written but a message on standard error. The text may have 1,048,576 bytes: eight times what any batch needs whose records
 // do not overlap.
 pub fn unpack() {
     let mut text = [0u8; 1048576];

@@ -30,7 +30,7 @@ use Rattle.reporting.proofs.NumberLaws.{signed-one, signed-length, numb
 
 -- ---- a number
 
--- What was put at the front of a lent part of the buffer, and one byte more behind it.
+-- What was put at the front of a lent part, with one byte more behind it.
 pub line-put : (out y s : List ℕ) (at end k m : ℕ) → at + m ≤ length out → length s ≤ m → take k y ≡ s → drop k y ≡ drop k (midOf at m out) → Counts k y
     → PutPost out at (s ++ end ∷ []) (at + k + 1) (set (putMid at m out y) (at + k) end)
 line-put out y s at end k m room few text rest counts =

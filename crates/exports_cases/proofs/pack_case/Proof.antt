@@ -1,5 +1,4 @@
 -- `pack_case` is safe: the batch lies inside the memory that is lent.
-use lib.ListN.{length}
 use Rattle.exports.proofs.PackLaws.{made-counts}
 use borrow.Author.Needs.{needs}
 use Rattle.exports_cases.proofs.pack_case.Statement.{statement}

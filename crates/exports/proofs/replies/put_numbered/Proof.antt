@@ -1,7 +1,6 @@
 -- The piece, and behind it the digits that `io::decimal` makes (`decimal-put`).
 use mathlib.Core.Path.{refl}
 use native.Mathlib.Omega.{arith}
-use denote.Ref.{now}
 use Rattle.wire.proofs.EncodingLaws.{put-both, put-same}
 use Rattle.console.proofs.NumberLaws.{decimal-put}
 use Rattle.console.proofs.OutputLaws.{few-digits}

@@ -1,7 +1,6 @@
 -- The text, or what is wrong with the batch (`text-said`, `message-said`).
 use mathlib.Core.Path.{refl}
 use native.Mathlib.Omega.{arith}
-use denote.Ref.{now}
 use Rattle.exports.proofs.ReplyLaws.{text-said, message-said, broken-records}
 use borrow.Author.Needs.{needs}
 use Rattle.exports.proofs.replies.unpack_batch.Statement.{statement}

@@ -1,5 +1,4 @@
 -- By what came in: a batch, or what is none by its length, or a message.
-use native.Mathlib.Omega.{arith}
 use denote.Ref.{now}
 use Rattle.console.proofs.InputLaws.{streamed}
 use Rattle.exports.proofs.ReplyLaws.{unpack-said, unpack-complained, full-said}

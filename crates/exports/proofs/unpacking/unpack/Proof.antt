@@ -1,12 +1,9 @@
 -- The walk, the length of the text, and the text (`unpack-broken`, `unpack-long`, `unpack-text`).
-use mathlib.Core.Path.{sym, ap, _∙_}
-use mathlib.Core.List.{List}
-use Prim.Native.Nat.{ℕ}
+use mathlib.Core.Path.{sym, _∙_}
 use native.Mathlib.Omega.{arith}
-use lib.ListN.{length}
 use lib.Seq.{length-take-le}
 use denote.Ref.{now}
-use Rattle.batch.proofs.ChainLaws.{records-few}
+use Rattle.batch.proofs.ChainLaws.{chain-short}
 use Rattle.exports.proofs.UnpackLaws.{whole-short, unpack-broken, unpack-long, unpack-text}
 use borrow.Author.Needs.{needs}
 use Rattle.exports.proofs.unpacking.unpack.Statement.{statement}
@@ -31,7 +28,7 @@ text-len-requires : tie.Need-text-len-requires
 text-len-requires c κs =
     let batch = now (c .before .before .before .before .before .before .before .before .before .before .args .batch) in (
       whole-short batch (sym (c .before .before .before .before .before .walk .ensures .ending) ∙ c .before .if1 .left),
-      omega (arith, length-take-le _ (c .before .before .before .before .before .walk .last .1 .0) (c .before .before .before .before .before .walk .ensures .inside), c .before .before .before .before .before .walk .ensures .records, records-few batch),
+      omega (arith, length-take-le _ (c .before .before .before .before .before .walk .last .1 .0) (c .before .before .before .before .before .walk .ensures .inside), c .before .before .before .before .before .walk .ensures .records, chain-short batch),
     )
 
 same-length-2 : tie.Need-same-length-2
