@@ -2,7 +2,7 @@
 use mathlib.Core.Path.{_≡_, refl, sym, ap, _∙_, subst}
 use mathlib.Core.List.{List, [], _++_}
 use mathlib.Core.Bool.{Bool, true, false, cond, _&&_}
-use Prim.Native.Nat.{ℕ, _+_, _≤_}
+use Prim.Native.Nat.{ℕ, _+_, _-_, _≤_}
 use native.Mathlib.Omega.{arith}
 use lib.Dec.{leb, eqb}
 use lib.ListN.{length, length-append}
@@ -13,10 +13,11 @@ use Rattle.batch.specs.Chain.{isBatch, Chain, chainOf}
 use Rattle.batch.specs.Packing.{packed}
 use Rattle.batch.proofs.ChainLaws.{chain-is, chain-short}
 use Rattle.console.specs.declared.input.Stream.{Stream}
+use Rattle.console.specs.declared.input.Stream.the-variants.{Full}
 use Rattle.console.specs.declared.output.Said.{Said}
 use Rattle.console.specs.declared.output.Said.the-variants.{Out, Err}
 use Rattle.console.specs.Output.{ascii, Saying, out, err, SaidPost}
-use Rattle.console.specs.Numbers.{decimalText}
+use Rattle.console.specs.Numbers.{figures, decimalText}
 use Rattle.console.proofs.NumberLaws.{decimal-short}
 use Rattle.console.proofs.OutputLaws.{said-out, said-err}
 use Rattle.exports.specs.declared.packing.Packed.{Packed}
@@ -25,7 +26,7 @@ use Rattle.exports.specs.declared.unpacking.Unpacked.{Unpacked}
 use Rattle.exports.specs.declared.unpacking.Unpacked.the-variants.{Text, Broken, Long}
 use Rattle.exports.specs.Packing.{packingOf, packedOf, PackedPost}
 use Rattle.exports.specs.Unpacking.{batchText, unpackedOf, putOf, UnpackedPost}
-use Rattle.exports.specs.Replies.{lineMessage, packedSays, linesSay, packSays, PackReply, brokenAt, chainMessage, unpackedSays, batchSays, unpackSays, UnpackReply}
+use Rattle.exports.specs.Replies.{lineMessage, packedSays, linesSay, thousands, packSays, PackReply, brokenAt, chainMessage, unpackedSays, batchSays, unpackSays, UnpackReply}
 use Rattle.exports.proofs.PackLaws.{made-bytes, made-counts}
 
 -- ---- messages
@@ -85,6 +86,14 @@ pack-said buf {spare = spare} {before} {left} {after} {r} e p = subst (λ (x : S
 -- A message in the place of a batch.
 pub pack-complained : {w : Saying} {spare before after : List ℕ} {r : Said} → length after ≡ length before → SaidPost w before r after → PackReply w spare before r spare after
 pack-complained e s = record { said = (s .says, s .counts); free = (refl, e) }
+
+-- A buffer of 262,145 bytes that is full.
+pub too-long-said : (buf : List ℕ) {spare before left after : List ℕ} {r : Said} → length buf ≡ 262145
+    → PackReply (err (ascii "pack: standard input is longer than 262,144 bytes\n")) spare before r left after → PackReply (packSays Full buf) spare before r left after
+unfolding figures
+too-long-said buf {spare} {before} {left} {after} {r} e p =
+    subst
+    (λ (k : ℕ). PackReply (err (ascii "pack: standard input is longer than " ++ (thousands (k - 1) ++ ascii " bytes\n"))) spare before r left after) (sym e) p
 
 -- ---- unpack
 

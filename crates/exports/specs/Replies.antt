@@ -1,11 +1,12 @@
 -- What the programs `pack` and `unpack` say, by what came in: a text for standard output, or a message for standard error.
 use mathlib.Core.Path.{_≡_}
-use mathlib.Core.List.{List, _++_}
+use mathlib.Core.List.{List, _∷_, _++_}
 use mathlib.Core.Bool.{cond}
-use Prim.Native.Nat.{ℕ, _+_, _≤_}
+use Prim.Native.Nat.{ℕ, _+_, _-_, _/_, _%_, _≤_}
 use lib.Dec.{eqb}
 use lib.ListN.{length, take}
 use Rattle.io.specs.Counts.{Counts}
+use Rattle.io.specs.Digits.{digits}
 use Rattle.console.specs.declared.input.Stream.{Stream}
 use Rattle.console.specs.declared.input.Stream.the-variants.{All, Failed, Full}
 use Rattle.console.specs.declared.output.Said.{Said}
@@ -40,11 +41,15 @@ packedSays (TooLong line) batch = err (lineMessage line (ascii " makes the batch
 unfoldable pub linesSay : List ℕ → Saying
 linesSay text = packedSays (packedOf (packingOf 65536 text)) (packed (packingOf 65536 text .states))
 
--- By the stream that was read into `buf`, which has one byte more than the longest text.
+-- A number from 1,000 to 999,999, with a comma, 44, before its last three digits.
+abbrev pub thousands : ℕ → List ℕ
+thousands n = decimalText (n / 1000) ++ (44 ∷ digits 10 3 (n % 1000))
+
+-- By the stream that was read into `buf`. One that fills the buffer is longer than any that does not, and so than all of its bytes but one.
 abbrev pub packSays : Stream → List ℕ → Saying
 packSays (All n) buf = linesSay (take n buf)
 packSays Failed buf = err (ascii "pack: standard input cannot be read\n")
-packSays Full buf = err (ascii "pack: standard input is longer than 262,144 bytes\n")
+packSays Full buf = err (ascii "pack: standard input is longer than " ++ (thousands (length buf - 1) ++ ascii " bytes\n"))
 
 -- The memory that `pack` lends: so that a stream that fills `lines` is longer than 262,144 bytes, and a batch that does not fit is longer than 65,536.
 pub record PackMemory (stream : Stream) (lines spare batch : List ℕ) : Type 0 where

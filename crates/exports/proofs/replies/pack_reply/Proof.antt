@@ -2,7 +2,7 @@
 use native.Mathlib.Omega.{arith}
 use denote.Ref.{now}
 use Rattle.console.proofs.InputLaws.{streamed}
-use Rattle.exports.proofs.ReplyLaws.{pack-said, pack-complained}
+use Rattle.exports.proofs.ReplyLaws.{pack-said, pack-complained, too-long-said}
 use borrow.Author.Needs.{needs}
 use Rattle.exports.proofs.replies.pack_reply.Statement.{statement}
 use Rattle.exports.proofs.replies.pack_reply.Tie as tie
@@ -53,7 +53,7 @@ same-length-4 : tie.Need-same-length-4
 same-length-4 c = search needs
 
 returns-3 : tie.Need-returns-3
-returns-3 c = pack-said (now (c .before .before .before .before .before .before .before .before .before .before .args .lines)) (c .before .before .before .before .before .enum-told2 .given .1) (pack-complained (c .before .before .complain2 .kept .0) (c .before .before .complain2 .ensures))
+returns-3 c = pack-said (now (c .before .before .before .before .before .before .before .before .before .before .args .lines)) (c .before .before .before .before .before .enum-told2 .given .1) (too-long-said (now (c .before .before .before .before .before .before .before .before .before .before .args .lines)) (c .before .before .before .before .before .before .before .before .before .before .pre .lines-size) (pack-complained (c .before .before .complain2 .kept .0) (c .before .before .complain2 .ensures)))
 
 pub pack-reply-spec : {M : Type 1} → statement M
 pack-reply-spec =
