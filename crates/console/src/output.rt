@@ -113,29 +113,26 @@ pub fn say(program: &[u8], said: Said, text: &[u8])
     }
 }
 
-// The answer of each is whether all was written.
-pub fn print_signed(fd: i32, v: u64) -> bool {
+pub fn print_signed(fd: i32, v: u64) {
     let mut text = [0u8; 21];
     let n = signed(v, &mut text);
-    io::write_all(fd, &text[..n])
+    io::write_all(fd, &text[..n]);
 }
 
-fn print_some(fd: i32, bytes: &[u8]) -> bool
+fn print_some(fd: i32, bytes: &[u8])
     requires { ⌜ length (now bytes) ≤ 2048 ⌝ }
 {
     let mut text = [0u8; 4096];
     let n = hex(bytes, &mut text);
-    io::write_all(fd, &text[..n])
+    io::write_all(fd, &text[..n]);
 }
 
-pub fn print_hex(fd: i32, bytes: &[u8]) -> bool {
+pub fn print_hex(fd: i32, bytes: &[u8]) {
     let mut at: usize = 0;
     while bytes.len() - at > 2048 {
         let end = at + 2048;
-        if !print_some(fd, &bytes[at..end]) {
-            return false;
-        }
+        print_some(fd, &bytes[at..end]);
         at = end;
     }
-    print_some(fd, &bytes[at..])
+    print_some(fd, &bytes[at..]);
 }

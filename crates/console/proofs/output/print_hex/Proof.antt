@@ -32,9 +32,6 @@ part-print-some-end c = search needs
 print-some-requires : tie.Need-print-some-requires Inv-loop μ-loop
 print-some-requires c κs = search needs
 
-returns : tie.Need-returns Inv-loop μ-loop
-returns c = search needs
-
 loop-less : tie.Need-loop-less Inv-loop μ-loop
 loop-less c = search needs
 
@@ -53,8 +50,8 @@ part-print-some-end-2 c = search needs
 print-some-requires-2 : tie.Need-print-some-requires-2 Inv-loop μ-loop
 print-some-requires-2 c κs = search needs
 
-returns-2 : tie.Need-returns-2 Inv-loop μ-loop
-returns-2 c = search needs
+returns : tie.Need-returns Inv-loop μ-loop
+returns c = search needs
 
 pub print-hex-spec : {M : Type 1} → statement M
 print-hex-spec =
@@ -69,11 +66,10 @@ print-hex-spec =
     part-print-some-start
     part-print-some-end
     print-some-requires
-    returns
     loop-less
     loop-again
     sub-print-some-2
     part-print-some-start-2
     part-print-some-end-2
     print-some-requires-2
-    returns-2)
+    returns)
