@@ -13,7 +13,7 @@ use Rattle.wire.proofs.EncodingLaws.{sets-more, Two, Four, four, two-length}
 use mathlib.Core.Logic.{⊎-elim}
 use Rattle.io.specs.Counts.{Counts}
 use Rattle.console.proofs.InputLaws.{side}
-use Rattle.console.specs.Output.{ascii, SignedPost, widenedOf, hexText, HexPost}
+use Rattle.console.specs.Output.{SignedPost, widenedOf, hexText, HexPost}
 use Rattle.console.proofs.OutputLaws.{part-put}
 use Rattle.rollup.specs.declared.accumulator.Accumulator.{Accumulator}
 use Rattle.rollup.specs.Accumulator.{fresh}
@@ -26,6 +26,7 @@ use Rattle.console.specs.Numbers.{figures}
 use Rattle.reporting.specs.Numbers.{signedText, numberText}
 use Rattle.batch.specs.declared.closing.Report.{Report}
 use Rattle.reporting.specs.Text.{answerLine, answerLines, endingText, notZeroOf, numbersLine, numbersOf, stateText, reportText}
+use Rattle.reporting.specs.Report.{tooLong}
 use Rattle.reporting.proofs.NumberLaws.{signed-one, signed-length, number-length, number-short}
 
 -- ---- a number
@@ -180,7 +181,7 @@ report-are r answers out =
     (append-assoc (endingText (r .rolled .ending) (r .rolled .records)) (numbersOf (r .rolled .head) (r .«not_zero»)) (stateText (r .written .answer) (take (r .written .len) out))))
 
 -- Of bytes that are no batch: "0 24", and of a fresh head four zeros and 21.
-pub text-24 : {r : Report} (answers output : List ℕ) → NoBatch r → reportText r answers output ≡ ascii "0 24\n0 0 0 0\n21\n"
+pub text-24 : {r : Report} (answers output : List ℕ) → NoBatch r → reportText r answers output ≡ tooLong
 unfolding figures signedText numberText answerLine answerLines endingText numbersLine stateText reportText
 text-24 {r} answers output h =
     ap (λ (n : ℕ). all n (r .rolled .ending) (r .rolled .head) (r .«not_zero») (r .written .answer)) (h .records)

@@ -97,14 +97,14 @@ fn put_state(text: &mut [u8], at: usize, written: Written, out: &[u8]) -> usize
         return put_number(text, at, written.answer as u64, b'\n');
     }
     let len = written.len;
-    let n = at + output::hex(&out[..len], &mut text[at..]);
-    text[n] = b'\n';
-    n + 1
+    let end = at + output::hex(&out[..len], &mut text[at..]);
+    text[end] = b'\n';
+    end + 1
 }
 
-// The whole text of a report at the front of the buffer, which takes the longest: 65,536 lines, the line of 24 or 25, the four numbers, and a state of
+// The whole text of a report at the front of the buffer, which takes the longest: 21,844 lines, the line of 24 or 25, the four numbers, and a state of
 // 65,536 bytes.
-pub(crate) fn put_report(r: Report, answers: &[u8], out: &[u8], text: &mut [u8; 800000]) -> usize
+pub(crate) fn put_report(r: Report, answers: &[u8], out: &[u8], text: &mut [u8; 350000]) -> usize
     requires { ⌜ ReportIn r (now answers) (now out) ⌝ }
     ensures { λ n. ⌜ PutPost (now (text .entry)) 0 (reportText r (now (answers .entry)) (now (out .entry))) n (now (text .exit)) × Counts n (now (text .exit)) ⌝ }
 {

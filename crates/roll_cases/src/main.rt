@@ -36,7 +36,7 @@ fn batch_line(line: &[u8]) {
         text::bad_case();
         return;
     };
-    let mut text = [0u8; 800000];
+    let mut text = [0u8; 350000];
     let len = reporting::roll_batch(&batch[..n], &mut text);
     io::write_all(STDOUT_FILENO, &text[..len]);
 }

@@ -17,7 +17,7 @@ put-answers-requires : tie.Need-put-answers-requires
 put-answers-requires c κs = let o = c .before .before .before .before .before .before .before in let size = length-take-le (o .args .r .rolled .records) (now (o .args .answers)) (o .pre .records-in) in let few = o .pre .records-few in (omega (arith, c .before .put-answers-arg .given .0 .1), omega arith)
 
 put-ending-requires : tie.Need-put-ending-requires
-put-ending-requires c κs = let o = c .before .before .before .before .before .before .before .before .before in let size = length-take-le (o .args .r .rolled .records) (now (o .args .answers)) (o .pre .records-in) in let few = o .pre .records-few in (omega (arith, c .put-ending-arg .given .0 .1, c .before .put-answers .ensures .1), few)
+put-ending-requires c κs = let o = c .before .before .before .before .before .before .before .before .before in let size = length-take-le (o .args .r .rolled .records) (now (o .args .answers)) (o .pre .records-in) in let few = o .pre .records-few in (omega (arith, c .put-ending-arg .given .0 .1, c .before .put-answers .ensures .1), omega arith)
 
 put-numbers-requires : tie.Need-put-numbers-requires
 put-numbers-requires c κs = let o = c .before .before .before .before .before .before .before .before .before .before .before in omega (arith, c .put-numbers-arg .given .0 .1, c .before .before .before .put-answers .ensures .1, length-take-le (o .args .r .rolled .records) (now (o .args .answers)) (o .pre .records-in), o .pre .records-few, c .before .put-ending .ensures .next, ending-length (o .args .r .rolled .ending) (o .args .r .rolled .records))

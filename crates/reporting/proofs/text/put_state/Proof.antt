@@ -39,8 +39,8 @@ part-hex-end c = search needs
 hex-requires : tie.Need-hex-requires
 hex-requires c κs = let o = c .before .before .before .before .before .before in omega (arith, length-take-le (o .args .written .len) (now (o .args .out)) (o .pre .0), mid-len (o .args .at) (length (now (o .args .text))) (now (o .args .text)) (omega arith), o .pre .1)
 
-add-n : tie.Need-add-n
-add-n c = search needs
+add-end : tie.Need-add-end
+add-end c = search needs
 
 slice-write-text : tie.Need-slice-write-text
 slice-write-text c = let o = c .before .before .before .before .before .before .before .before .before in omega (arith, length-take-le (o .args .written .len) (now (o .args .out)) (o .pre .0), hex-room (c .before .before .hex .ensures), o .pre .1, c .before .text2 .given)
@@ -71,7 +71,7 @@ put-state-spec =
     part-hex-start
     part-hex-end
     hex-requires
-    add-n
+    add-end
     slice-write-text
     add-result
     same-length-2
