@@ -1,6 +1,6 @@
 -- What is reported of bytes that are no batch: no record and 24, a fresh roll-up, and the refusal to write it.
 use Prim.Native.Nat.{ℕ}
-use mathlib.Core.Path.{_≡_, refl, sym, ap, _∙_, subst}
+use mathlib.Core.Path.{_≡_, refl, sym, ap, _∙_}
 use mathlib.Core.List.{List, [], _∷_}
 use mathlib.Core.Bool.{Bool, true, false, cond, true≢false}
 use native.Mathlib.Omega.{arith}
@@ -17,7 +17,7 @@ use Rattle.rollup.proofs.WriteLaws.{write-fresh}
 use Rattle.batch.specs.declared.records.Ending.the-variants.{Refused, Full}
 use Rattle.batch.specs.declared.closing.Count.the-variants.{Registers}
 use Rattle.batch.specs.declared.closing.Report.{Report}
-use Rattle.batch.specs.Chain.{Chain, isBatch, chainOf}
+use Rattle.batch.specs.Chain.{Chain, isBatch}
 use Rattle.batch.specs.Batch.{addedAll, endingFor, statesFor}
 use Rattle.batch.specs.Closing.{countFor, ReportPost}
 use Rattle.batch.proofs.ChainLaws.{chain-is}
