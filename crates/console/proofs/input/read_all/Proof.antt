@@ -1,5 +1,5 @@
 -- `read_all` meets its contract: n counts the bytes that came, which lie inside the buffer, and each turn that goes on has more of them.
-use mathlib.Core.Path.{_≡_, refl, sym, _∙_}
+use mathlib.Core.Path.{_≡_, refl, _∙_}
 use Prim.Native.Nat.{_-_, _≤_}
 use native.Mathlib.Omega.{arith}
 use lib.ListN.{length}

@@ -1,5 +1,5 @@
 -- `put_answers` meets its contract: what is left are the lines of the records from i on, and a line takes 10 bytes at most.
-use Prim.Native.Nat.{ℕ, _+_, _*_, _-_, _≤_}
+use Prim.Native.Nat.{_+_, _*_, _-_, _≤_}
 use mathlib.Core.Path.{_≡_, refl, _∙_}
 use native.Mathlib.Omega.{arith}
 use lib.ListN.{length, drop, getD}
