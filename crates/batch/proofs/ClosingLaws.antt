@@ -26,7 +26,7 @@ use Rattle.batch.specs.declared.closing.Count.{Count}
 use Rattle.batch.specs.declared.closing.Count.the-variants.{Registers, Short}
 use Rattle.batch.specs.declared.closing.Report.{Report}
 use Rattle.batch.specs.Chain.{statesOf}
-use Rattle.batch.specs.Batch.{addedAll, statesFor}
+use Rattle.batch.specs.Batch.{statesFor}
 use Rattle.batch.specs.Closing.{countFor, ListCountPre, ReportPost, NeverShort}
 use Rattle.batch.proofs.ChainLaws.{added-unmoved}
 

@@ -1,13 +1,13 @@
 -- How many records a batch can have. Records may overlap, but an index, being below 65,536, ends in two zero bytes: a record that begins one or two bytes past the one
 -- before leads back, or nowhere. So each step of a chain but the last is of three bytes or more, and there are no more than 21,844 records.
 use Prim.Native.Nat.{ℕ, zero, suc, _+_, _*_, _≤_, _<_}
-use mathlib.Core.Path.{_≡_, refl, ap, _∙_}
+use mathlib.Core.Path.{_≡_, refl, ap}
 use mathlib.Core.List.{List}
 use mathlib.Core.Bool.{Bool, true, false, cond}
 use mathlib.Core.Logic.{_⊎_, inl, inr, ⊎-elim}
 use native.Mathlib.Omega.{arith}
 use lib.Dec.{eqb}
-use lib.ListN.{length, getD, take, length-take, length-map}
+use lib.ListN.{length, getD, length-take, length-map}
 use Rattle.wire.proofs.VarintLaws.{side}
 use Rattle.rollup.specs.Accumulator.{Mem}
 use Rattle.batch.specs.declared.closing.Report.{Report}
