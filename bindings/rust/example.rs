@@ -9,12 +9,12 @@ fn main() -> Result<(), filmoed::Refused> {
     let mut roll_up = RollUp::new(65536, 16384);
     roll_up.add(&state)?;
     println!("1 0");
-    for (i, answer) in roll_up.fold(&state, &[23])?.iter().enumerate() {
+    for (i, answer) in roll_up.fold(&state, &[23]).into_iter().enumerate() {
         answer?;
         println!("{} 0", i + 2);
     }
-    // An end past the states: the fold is refused as a whole.
-    assert_eq!(roll_up.fold(&state, &[24]), Err(BAD_ENDS));
+    // An end past the states: none is added.
+    assert_eq!(roll_up.fold(&state, &[23, 24]), [Err(BAD_ENDS); 2]);
     let mut out = [0; 65536];
     let written = roll_up.write(&mut out)?.to_vec();
     println!("{:?} {}", roll_up.precisions(), roll_up.num_values());

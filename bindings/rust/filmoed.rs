@@ -33,17 +33,6 @@ fn answered(answer: u8) -> Result<(), Refused> {
     if answer == 0 { Ok(()) } else { Err(Refused(answer)) }
 }
 
-/// The answer to each state of a fold, in order.
-#[must_use = "a state that was refused is told here alone"]
-#[derive(Debug, Clone, PartialEq, Eq)]
-pub struct Answers(Vec<u8>);
-
-impl Answers {
-    pub fn iter(&self) -> impl Iterator<Item = Result<(), Refused>> + '_ {
-        self.0.iter().map(|&answer| answered(answer))
-    }
-}
-
 /// A roll-up with memory of its own.
 pub struct RollUp {
     head: [u64; 10],
@@ -74,18 +63,19 @@ impl RollUp {
         })
     }
 
-    /// Adds many states that stand one behind the other; `ends` says where each one ends. There is an answer for each of them, and a refused one does not keep the
-    /// others out. The fold as a whole is refused where the ends do not fit ([`BAD_ENDS`]), and then nothing is changed.
-    pub fn fold(&mut self, states: &[u8], ends: &[u64]) -> Result<Answers, Refused> {
+    /// Adds many states that stand one behind the other; `ends` says where each one ends. Bytes behind the last end belong to no state. Each state has a `Result` of
+    /// its own, and a refused one does not keep the others out. Where the ends do not fit ([`BAD_ENDS`]) none is added, and each says so.
+    #[must_use = "a state that was refused is told here alone"]
+    pub fn fold(&mut self, states: &[u8], ends: &[u64]) -> Vec<Result<(), Refused>> {
         let mut answers = vec![0; ends.len()];
-        answered(unsafe {
+        let whole = answered(unsafe {
             c::filmoed_fold(
                 self.head.as_mut_ptr(), self.head.len(), self.registers.as_mut_ptr(), self.registers.len(), self.sparse.as_mut_ptr(), self.sparse.len(),
                 self.pending.as_mut_ptr(), self.pending.len(), self.scratch.as_mut_ptr(), self.scratch.len(), states.as_ptr(), states.len(), ends.as_ptr(),
                 ends.len(), answers.as_mut_ptr(), answers.len(),
             )
-        })?;
-        Ok(Answers(answers))
+        });
+        answers.into_iter().map(|answer| whole.and_then(|()| answered(answer))).collect()
     }
 
     /// Writes the roll-up as a state into `out`, and gives back the part that was written.

@@ -1,5 +1,5 @@
 -- What the exported functions promise: the same as those of `rollup`, of a head that is a row of numbers. Where the row is no head the answer is 1, and
--- nothing is changed.
+-- nothing is changed but `scratch`, which is free after every call.
 use mathlib.Core.Path.{_≡_}
 use mathlib.Core.List.{List}
 use mathlib.Core.Bool.{Bool, true, false, cond}

@@ -24,7 +24,8 @@ splits bytes start (end ∷ ends) = between bytes start end ∷ splits bytes end
 
 -- ---- the fold's own arguments
 
--- Whether ends, from `start` on, are of states in so many bytes: no end is before the last one, and none is past the bytes.
+-- Whether ends, from `start` on, are of states in so many bytes: no end is before the last one, and none is past the bytes. Bytes behind the last end belong to no
+-- state.
 unfoldable pub endsFit : (size start : ℕ) → List ℕ → Bool
 endsFit size start [] = leb start size
 endsFit size start (end ∷ ends) = leb start end && endsFit size end ends
@@ -68,7 +69,7 @@ pub record FoldedRow (row : List ℕ) (m : Mem) (room : ℕ) (bytes ends answers
   pub post : FoldedPost (headIn row) m room bytes ends answers head n left
   pub row-left : after ≡ withHead head row
 
--- A fold that is refused as a whole changes nothing.
+-- A fold that is refused as a whole changes nothing but `scratch`, which is free after every call.
 pub record FoldRowPost (row : List ℕ) (m : Mem) (room : ℕ) (bytes ends answers : List ℕ) (answer : ℕ) (after : List ℕ) (n : Mem) (left : List ℕ) : Type 0 where
   pub answer-is : answer ≡ foldAnswer row m bytes ends answers
   pub refused : (answer ≡ 0 → ⊥) → (after ≡ row) × (n ≡ m) × (left ≡ answers)

@@ -90,7 +90,7 @@ fresh =
       «pending_len» = 0;
     }
 
--- The bounds that a head's numbers have by their types.
+-- The bounds that those numbers of a head have by their types that are written as they are.
 pub record HeadWidths (a : Accumulator) : Type 0 where
   pub value-type : a .«value_type» < 2 ^ 32
   pub count : a .«num_values» < 2 ^ 64

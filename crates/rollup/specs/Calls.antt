@@ -145,14 +145,15 @@ Unmoved (added room bytes n ∷ calls) = Unmoved calls
 Unmoved (wrote room out n ∷ calls) = Unmoved calls
 Unmoved (moved ∷ calls) = ⊥
 
--- Demand 3 as document 01 words it is the case of `Unmoved` calls that are all lent one `scratch`: "each call is given the head and the lent memory as the last
--- one left them".
+-- Demand 3 as the demands word it is the case of `Unmoved` calls that are all lent one `scratch`: "each call is given the head and the lent memory as the last one
+-- left them".
 unfoldable pub DemandThree : Type 0
 DemandThree = (first : Mem) (calls : List Call) (a : Accumulator) (m : Mem) (run : Run first calls a m) → NoZeroRank (states calls) → Agrees first calls a m run
 
 -- ---- its consequence
 
--- Two lists of calls that accepted the same set of states, in whatever order and however often. A state is what its bytes say, however they spell it.
+-- Two lists of calls that accepted the same set of states, in whatever order and however often. A state is its fields as they are read, however tags, lengths and
+-- numbers are spelled; the bytes of a list count as they stand.
 pub record SameStates (c d : List Call) : Type 0 where
   pub there : (st : State) → List·Memᴰ st (states c) → List·Memᴰ st (states d)
   pub back : (st : State) → List·Memᴰ st (states d) → List·Memᴰ st (states c)

@@ -1,4 +1,4 @@
--- The layout of a state that cannot lose its end unnoticed: the nested message last. And what is read of a state that is cut off.
+-- The layout of a state that cannot lose its end unnoticed: the nested message last. And what is read of a state of that layout that is cut off.
 use mathlib.Core.Path.{_≡_}
 use mathlib.Core.List.{List, [], _∷_}
 use mathlib.Core.Bool.{Bool, true, false, cond}
@@ -37,7 +37,7 @@ nestedLastIn (suc n) l = whenRead (pastField l) (λ t rest. cond (isNested t) (a
 unfoldable pub nestedLast : List ℕ → Bool
 nestedLast bytes = nestedLastIn (length bytes) bytes
 
--- What reading a state that is cut off may find: 3, or a state without any field of the nested message.
+-- What reading a state of that layout may find where it is cut off: 3, or a state without any field of the nested message.
 pub data CutReading : Read State → Type 0 where
   cut-refused : CutReading (refused 3)
   cut-before-hll : (st : State) → st .hll ≡ emptyHll → CutReading (got st [])

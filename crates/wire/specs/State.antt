@@ -201,7 +201,8 @@ abbrev pub ParsedInside : List ℕ → Parsed → Type 0
 ParsedInside s (StateRead f) = HllInside s (f .hll)
 ParsedInside s (StateRefused n) = Unit
 
--- `parse`: for every list of bytes the answer is the definition's, and the positions of its data fields lie inside the bytes.
+-- `parse`: for every list of bytes the answer is the definition's, and the positions of its data fields lie inside the bytes. Free: at which of several places
+-- that hold the same bytes a part starts, and where a present part of no bytes does.
 pub record ParsePost (s : List ℕ) (r : Parsed) : Type 0 where
   pub answer : parsedMeans s r ≡ readState s
   pub inside : ParsedInside s r
