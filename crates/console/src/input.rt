@@ -1,6 +1,6 @@
 // Reading a stream into a buffer, then lines, words, numbers and byte strings.
 ghost use mathlib.Core.Path.{_≡_};
-ghost use Prim.Native.Nat.{_≤_};
+ghost use Prim.Native.Nat.{_≤_, _<_};
 ghost use Rattle.io.specs.Counts.{Counts};
 ghost use Rattle.console.specs.Input.{DigitPost, FindPost, NumberPost, BytesPost, readingOf, StreamPost};
 use libc::STDERR_FILENO;
@@ -52,13 +52,25 @@ pub fn after_read(n: usize, got: isize, len: usize) -> Reading
     Reading::More(n + k)
 }
 
-// Reads to the end. What a read puts into the buffer, and that its answer is what `after_read` is given, no contract reaches: so nothing else stands here.
+// Where a read from n on ends: at most 16,384 bytes are read at once, so that a longer file goes round the loop of `read_all` as a pipe does.
+fn piece_end(n: usize, len: usize) -> usize
+    requires { ⌜ n ≤ len ⌝ }
+    ensures { λ r. ⌜ (n ≤ r) × (r ≤ len) × (n < len → n < r) ⌝ }
+{
+    if len - n <= 16384 {
+        return len;
+    }
+    n + 16384
+}
+
+// Reads to the end. What a read puts into the buffer, and that its answer is what `after_read` is given, no contract reaches: so little else stands here.
 pub fn read_all(fd: i32, buf: &mut [u8]) -> Stream
     ensures { λ r. ⌜ StreamPost (now (buf .exit)) r ⌝ }
 {
     let mut n: usize = 0;
     loop {
-        let got = libc::read(fd, &mut buf[n..]);
+        let end = piece_end(n, buf.len());
+        let got = libc::read(fd, &mut buf[n..end]);
         match after_read(n, got, buf.len()) {
             Reading::More(m) => n = m,
             Reading::Done(stream) => return stream,

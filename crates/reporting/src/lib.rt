@@ -99,7 +99,7 @@ fn tell(stream: Stream, buf: &[u8], heard: Heard, answers: &[u8; 65536], out: &[
 
 // The program `roll`: reads a batch from standard input, rolls it up and says what there is to say. The buffer has one byte more than the longest batch.
 // `tell` is called in two places, since the compiler takes a function that is called in one into its caller: the text then takes the stack that `roll_up`
-// has given back, and no page more.
+// has given back.
 pub fn roll() {
     let mut buf = [0u8; 65537];
     let mut answers = [0u8; 65536];

@@ -18,6 +18,9 @@ abbrev μ-loop : tie.MeasureT-loop
 loop-holds : tie.Need-loop-holds Inv-loop μ-loop
 loop-holds c = (search needs, refl)
 
+piece-end-requires : tie.Need-piece-end-requires Inv-loop μ-loop
+piece-end-requires c κs = search needs
+
 sub-read : tie.Need-sub-read Inv-loop μ-loop
 sub-read c = search needs
 
@@ -38,14 +41,14 @@ enum-known-m c = search needs
 
 loop-less : tie.Need-loop-less Inv-loop μ-loop
 loop-less c =
-    let l = c .before .before .before .before .before .before .before .before .loop in let b = putMid (l .n) (length (l .buf) - l .n) (l .buf) (c .before .before .before .before .before .before .read .last .1 .0) in let w = reading-next b (l .n) _ (c .before .m .given .1) (c .before .before .before .after-read .ensures) in
-    let s = same-len-mid (l .n) (length (l .buf) - l .n) (l .buf) (c .before .before .before .before .before .before .read .last .1 .0) (c .before .before .before .before .before .before .read .kept .1 .0) in
+    let l = c .before .before .before .before .before .before .before .before .before .loop in let b = putMid (l .n) (c .before .before .before .before .before .before .before .before .piece-end .result - l .n) (l .buf) (c .before .before .before .before .before .before .read .last .1 .0) in let w = reading-next b (l .n) _ (c .before .m .given .1) (c .before .before .before .after-read .ensures) in
+    let s = same-len-mid (l .n) (c .before .before .before .before .before .before .before .before .piece-end .result - l .n) (l .buf) (c .before .before .before .before .before .before .read .last .1 .0) (c .before .before .before .before .before .before .read .kept .1 .0) in
     omega (arith, w .0, w .1, s, l .inv .1)
 
 loop-again : tie.Need-loop-again Inv-loop μ-loop
 loop-again c =
-    let l = c .before .before .before .before .before .before .before .before .loop in let b = putMid (l .n) (length (l .buf) - l .n) (l .buf) (c .before .before .before .before .before .before .read .last .1 .0) in let w = reading-next b (l .n) _ (c .before .m .given .1) (c .before .before .before .after-read .ensures) in
-    let s = same-len-mid (l .n) (length (l .buf) - l .n) (l .buf) (c .before .before .before .before .before .before .read .last .1 .0) (c .before .before .before .before .before .before .read .kept .1 .0) in
+    let l = c .before .before .before .before .before .before .before .before .before .loop in let b = putMid (l .n) (c .before .before .before .before .before .before .before .before .piece-end .result - l .n) (l .buf) (c .before .before .before .before .before .before .read .last .1 .0) in let w = reading-next b (l .n) _ (c .before .m .given .1) (c .before .before .before .after-read .ensures) in
+    let s = same-len-mid (l .n) (c .before .before .before .before .before .before .before .before .piece-end .result - l .n) (l .buf) (c .before .before .before .before .before .before .read .last .1 .0) (c .before .before .before .before .before .before .read .kept .1 .0) in
     (omega (arith, w .1), s ∙ l .inv .1)
 
 enum-known-stream : tie.Need-enum-known-stream Inv-loop μ-loop
@@ -55,7 +58,7 @@ same-length : tie.Need-same-length Inv-loop μ-loop
 same-length c = search needs
 
 returns : tie.Need-returns Inv-loop μ-loop
-returns c = let l = c .before .before .before .before .before .before .before .before .loop in reading-next (putMid (l .n) (length (l .buf) - l .n) (l .buf) (c .before .before .before .before .before .before .read .last .1 .0)) (l .n) _ (c .before .stream .given .1) (c .before .before .before .after-read .ensures)
+returns c = let l = c .before .before .before .before .before .before .before .before .before .loop in reading-next (putMid (l .n) (c .before .before .before .before .before .before .before .before .piece-end .result - l .n) (l .buf) (c .before .before .before .before .before .before .read .last .1 .0)) (l .n) _ (c .before .stream .given .1) (c .before .before .before .after-read .ensures)
 
 pub read-all-spec : {M : Type 1} → statement M
 read-all-spec =
@@ -64,6 +67,7 @@ read-all-spec =
     Inv-loop
     μ-loop
     loop-holds
+    piece-end-requires
     sub-read
     part-read-start
     part-read-end
