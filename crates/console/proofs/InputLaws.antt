@@ -21,9 +21,10 @@ use Rattle.console.specs.declared.input.Bytes.{Bytes}
 use Rattle.console.specs.declared.input.Bytes.the-variants.{Count}
 use Rattle.console.specs.declared.input.Stream.{Stream}
 use Rattle.console.specs.declared.input.Stream.the-variants.{All, Failed, Full}
+use Rattle.console.specs.declared.input.Arrived.{Arrived}
 use Rattle.console.specs.declared.input.Reading.{Reading}
 use Rattle.console.specs.declared.input.Reading.the-variants.{More, Done}
-use Rattle.console.specs.Input.{soFar, readingOf, StreamPost, BytesPost, upTo, digitOf, decimalFrom, decimalOf, below64, consTo, byteThen, hexOf, onto}
+use Rattle.console.specs.Input.{soFar, readingOf, ArrivedIn, StreamPost, BytesPost, upTo, digitOf, decimalFrom, decimalOf, below64, consTo, byteThen, hexOf, onto}
 
 -- One of two numbers is the smaller.
 pub side : (a b : ℕ) → (a < b) ⊎ (b ≤ a)
@@ -262,6 +263,10 @@ reading-goes buf n (pos k) = go k (ltb (n + k) (length buf)) refl
 
 pub reading-next : (buf : List ℕ) (n : ℕ) (got : ℤ) {r s : Reading} → r ≡ s → r ≡ readingOf n got (length buf) → Goes n buf s
 reading-next buf n got e h = subst (Goes n buf) (sym h ∙ e) (reading-goes buf n got)
+
+-- What is known of a stream that was read.
+pub arrived-stream : (buf : List ℕ) (r : Arrived) → ArrivedIn buf r → StreamPost buf (r .stream)
+arrived-stream buf r e = subst (Goes (r .before) buf) e (reading-goes buf (r .before) (r .got))
 
 -- ---- for callers: the front that an answer counts
 

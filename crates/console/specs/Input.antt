@@ -11,6 +11,7 @@ use lib.ListN.{length, take, drop}
 use Rattle.io.specs.Counts.{Counts}
 use Rattle.console.specs.declared.input.Stream.{Stream}
 use Rattle.console.specs.declared.input.Stream.the-variants.{All, Failed, Full}
+use Rattle.console.specs.declared.input.Arrived.{Arrived}
 use Rattle.console.specs.declared.input.Reading.{Reading}
 use Rattle.console.specs.declared.input.Reading.the-variants.{More, Done}
 use Rattle.console.specs.declared.input.Number.{Number}
@@ -28,6 +29,10 @@ soFar (suc k) n = More (n + suc k)
 unfoldable pub readingOf : ℕ → ℤ → ℕ → Reading
 readingOf n (negsuc k) len = Done Failed
 readingOf n (pos k) len = cond (ltb (n + k) len) (soFar k n) (Done Full)
+
+-- A stream that was read into this buffer is what the read that ended it makes of it.
+abbrev pub ArrivedIn : List ℕ → Arrived → Type 0
+ArrivedIn buf r = readingOf (r .before) (r .got) (length buf) ≡ Done (r .stream)
 
 -- Of a whole stream, that it is shorter than the buffer: one that fills it never passes as whole. Which bytes came, and which of the three it is, nothing can say.
 abbrev pub StreamPost : List ℕ → Stream → Type 0

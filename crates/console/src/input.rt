@@ -2,7 +2,7 @@
 ghost use mathlib.Core.Path.{_≡_};
 ghost use Prim.Native.Nat.{_≤_, _<_};
 ghost use Rattle.io.specs.Counts.{Counts};
-ghost use Rattle.console.specs.Input.{DigitPost, FindPost, NumberPost, BytesPost, readingOf, StreamPost};
+ghost use Rattle.console.specs.Input.{DigitPost, FindPost, NumberPost, BytesPost, readingOf, ArrivedIn};
 use libc::STDERR_FILENO;
 use libc::STDIN_FILENO;
 
@@ -11,6 +11,13 @@ pub enum Stream {
     All(usize),
     Failed,
     Full,
+}
+
+// A stream that was read, and the read that ended it: how many bytes had come before it, and what it answered.
+pub struct Arrived {
+    pub stream: Stream,
+    pub before: usize,
+    pub got: isize,
 }
 
 // What is known after a read: this many bytes have come, and more may; or reading is done.
@@ -63,9 +70,9 @@ fn piece_end(n: usize, len: usize) -> usize
     n + 16384
 }
 
-// Reads to the end. What a read puts into the buffer, and that its answer is what `after_read` is given, no contract reaches: so little else stands here.
-pub fn read_all(fd: i32, buf: &mut [u8]) -> Stream
-    ensures { λ r. ⌜ StreamPost (now (buf .exit)) r ⌝ }
+// Reads to the end. What a read puts into the buffer, and that the answer that is handed on is a read's, no contract reaches: so little else stands here.
+pub fn read_all(fd: i32, buf: &mut [u8]) -> Arrived
+    ensures { λ r. ⌜ ArrivedIn (now (buf .exit)) r ⌝ }
 {
     let mut n: usize = 0;
     loop {
@@ -73,7 +80,13 @@ pub fn read_all(fd: i32, buf: &mut [u8]) -> Stream
         let got = libc::read(fd, &mut buf[n..end]);
         match after_read(n, got, buf.len()) {
             Reading::More(m) => n = m,
-            Reading::Done(stream) => return stream,
+            Reading::Done(stream) => {
+                return Arrived {
+                    stream,
+                    before: n,
+                    got,
+                };
+            }
         }
     }
 }
@@ -83,7 +96,8 @@ pub fn read_cases(program: &[u8], buf: &mut [u8]) -> usize
     ensures { λ r. ⌜ Counts r (now (buf .exit)) ⌝ }
 {
     let r = read_all(STDIN_FILENO, buf);
-    let Stream::All(n) = r else {
+    let stream = r.stream;
+    let Stream::All(n) = stream else {
         io::write_all(STDERR_FILENO, program);
         io::write_all(
             STDERR_FILENO,

@@ -1,5 +1,5 @@
 -- `read_all` meets its contract: n counts the bytes that came, which lie inside the buffer, and each turn that goes on has more of them.
-use mathlib.Core.Path.{_≡_, refl, _∙_}
+use mathlib.Core.Path.{_≡_, refl, sym, _∙_}
 use Prim.Native.Nat.{_-_, _≤_}
 use native.Mathlib.Omega.{arith}
 use lib.ListN.{length}
@@ -58,7 +58,7 @@ same-length : tie.Need-same-length Inv-loop μ-loop
 same-length c = search needs
 
 returns : tie.Need-returns Inv-loop μ-loop
-returns c = let l = c .before .before .before .before .before .before .before .before .before .loop in reading-next (putMid (l .n) (c .before .before .before .before .before .before .before .before .piece-end .result - l .n) (l .buf) (c .before .before .before .before .before .before .read .last .1 .0)) (l .n) _ (c .before .stream .given .1) (c .before .before .before .after-read .ensures)
+returns c = sym (c .before .before .before .after-read .ensures) ∙ c .before .stream .given .1
 
 pub read-all-spec : {M : Type 1} → statement M
 read-all-spec =

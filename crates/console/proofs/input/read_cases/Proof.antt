@@ -1,14 +1,14 @@
 -- `read_cases` meets its contract: the count is that of `read_all`, or 0.
 use borrow.Author.Needs.{needs}
-use Rattle.console.proofs.InputLaws.{streamed}
+use Rattle.console.proofs.InputLaws.{arrived-stream, streamed}
 use Rattle.console.proofs.input.read_cases.Statement.{statement}
 use Rattle.console.proofs.input.read_cases.Tie as tie
 
 read-all-requires : tie.Need-read-all-requires
 read-all-requires c κs = search needs
 
-enum-known-r : tie.Need-enum-known-r
-enum-known-r c = search needs
+enum-known-stream : tie.Need-enum-known-stream
+enum-known-stream c = search needs
 
 write-all-requires : tie.Need-write-all-requires
 write-all-requires c κs = search needs
@@ -29,14 +29,14 @@ same-length-2 : tie.Need-same-length-2
 same-length-2 c = search needs
 
 returns-2 : tie.Need-returns-2
-returns-2 c = streamed (c .before .before .before .before .before .read-all .last .1 .0) (c .before .before .before .before .before .read-all .result) (c .before .r .given .0 .0) (c .before .r .given .1) (c .before .before .before .before .before .read-all .ensures)
+returns-2 c = streamed (c .before .before .before .before .before .read-all .last .1 .0) (c .before .before .before .before .before .read-all .result .stream) (c .before .stream .given .0 .0) (c .before .stream .given .1) (arrived-stream (c .before .before .before .before .before .read-all .last .1 .0) (c .before .before .before .before .before .read-all .result) (c .before .before .before .before .before .read-all .ensures))
 
 pub read-cases-spec : {M : Type 1} → statement M
 read-cases-spec =
     tie.close
     (tie.spec
     read-all-requires
-    enum-known-r
+    enum-known-stream
     write-all-requires
     slice-aggregate-write-all
     write-all-requires-2
