@@ -7,10 +7,11 @@ use lib.Dec.{eqb}
 use lib.ListN.{length, take}
 use Rattle.io.specs.Counts.{Counts}
 use Rattle.io.specs.Digits.{digits}
+use Rattle.console.specs.declared.input.Arrived.{Arrived}
 use Rattle.console.specs.declared.input.Stream.{Stream}
 use Rattle.console.specs.declared.input.Stream.the-variants.{All, Failed, Full}
 use Rattle.console.specs.declared.output.Said.{Said}
-use Rattle.console.specs.Input.{StreamPost}
+use Rattle.console.specs.Input.{ArrivedIn}
 use Rattle.console.specs.Output.{ascii, Saying, out, err, sizeOf, sayingOf, SaidPost}
 use Rattle.console.specs.Numbers.{decimalText}
 use Rattle.batch.specs.Packing.{packed}
@@ -52,8 +53,8 @@ packSays Failed buf = err (ascii "pack: standard input cannot be read\n")
 packSays Full buf = err (ascii "pack: standard input is longer than " ++ (thousands (length buf - 1) ++ ascii " bytes\n"))
 
 -- The memory that `pack` lends: so that a stream that fills `lines` is longer than 262,144 bytes, and a batch that does not fit is longer than 65,536.
-pub record PackMemory (stream : Stream) (lines spare batch : List ℕ) : Type 0 where
-  pub streamed : StreamPost lines stream
+pub record PackMemory (arrived : Arrived) (lines spare batch : List ℕ) : Type 0 where
+  pub read-in : ArrivedIn lines arrived
   pub lines-size : length lines ≡ 262145
   pub spare-size : length lines ≤ length spare
   pub batch-size : length batch ≡ 65536
@@ -90,8 +91,8 @@ unpackSays Failed buf = err (ascii "unpack: standard input cannot be read\n")
 unpackSays Full buf = err (chainMessage 0 24)
 
 -- The memory that `unpack` lends: so that a stream that fills `buf` is longer than 65,536 bytes, and a text that does not fit is longer than 1,048,576.
-pub record UnpackMemory (stream : Stream) (buf indices text : List ℕ) : Type 0 where
-  pub streamed : StreamPost buf stream
+pub record UnpackMemory (arrived : Arrived) (buf indices text : List ℕ) : Type 0 where
+  pub read-in : ArrivedIn buf arrived
   pub buf-size : length buf ≡ 65537
   pub cells : 65536 ≤ length indices
   pub text-size : length text ≡ 1048576

@@ -12,6 +12,7 @@ use crate::packing;
 use crate::packing::Packed;
 use crate::unpacking;
 use crate::unpacking::Unpacked;
+use console::input::Arrived;
 use console::input::Stream;
 use console::output::Said;
 use wire::encoding::put_bytes;
@@ -84,10 +85,11 @@ fn pack_lines(lines: &[u8], spare: &mut [u8], out: &mut [u8]) -> Said
 }
 
 // What `pack` says of a stream that was read into `lines`.
-pub(crate) fn pack_reply(stream: Stream, lines: &[u8], spare: &mut [u8], out: &mut [u8]) -> Said
-    requires { ⌜ PackMemory stream (now lines) (now spare) (now out) ⌝ }
-    ensures { λ r. ⌜ PackReply (packSays stream (now (lines .entry))) (now (spare .entry)) (now (out .entry)) r (now (spare .exit)) (now (out .exit)) ⌝ }
+pub(crate) fn pack_reply(arrived: Arrived, lines: &[u8], spare: &mut [u8], out: &mut [u8]) -> Said
+    requires { ⌜ PackMemory arrived (now lines) (now spare) (now out) ⌝ }
+    ensures { λ r. ⌜ PackReply (packSays (arrived .stream) (now (lines .entry))) (now (spare .entry)) (now (out .entry)) r (now (spare .exit)) (now (out .exit)) ⌝ }
 {
+    let stream = arrived.stream;
     match stream {
         Stream::All(n) => pack_lines(&lines[..n], spare, out),
         Stream::Failed => complain(out, b"pack: standard input cannot be read\n"),
@@ -108,10 +110,16 @@ fn unpack_batch(batch: &[u8], indices: &mut [u32], text: &mut [u8]) -> Said
 }
 
 // What `unpack` says of a stream that was read into `buf`. A buffer that is full has more bytes than a batch, which is what is said of it.
-pub(crate) fn unpack_reply(stream: Stream, buf: &[u8], indices: &mut [u32], text: &mut [u8]) -> Said
-    requires { ⌜ UnpackMemory stream (now buf) (now indices) (now text) ⌝ }
-    ensures { λ r. ⌜ UnpackReply (unpackSays stream (now (buf .entry))) (now (indices .entry)) (now (text .entry)) r (now (indices .exit)) (now (text .exit)) ⌝ }
+pub(crate) fn unpack_reply(
+    arrived: Arrived,
+    buf: &[u8],
+    indices: &mut [u32],
+    text: &mut [u8],
+) -> Said
+    requires { ⌜ UnpackMemory arrived (now buf) (now indices) (now text) ⌝ }
+    ensures { λ r. ⌜ UnpackReply (unpackSays (arrived .stream) (now (buf .entry))) (now (indices .entry)) (now (text .entry)) r (now (indices .exit)) (now (text .exit)) ⌝ }
 {
+    let stream = arrived.stream;
     match stream {
         Stream::All(n) => unpack_batch(&buf[..n], indices, text),
         Stream::Failed => complain(text, b"unpack: standard input cannot be read\n"),

@@ -3,12 +3,13 @@
 // state is lowercase hexadecimal, and each line ends in a newline.
 ghost use Prim.Native.Nat.{_<_};
 ghost use lib.ListN.{length};
-ghost use Rattle.console.specs.Input.{StreamPost};
+ghost use Rattle.console.specs.Input.{ArrivedIn, StreamPost};
 ghost use Rattle.console.specs.Output.{SaidPost};
 ghost use Rattle.reporting.specs.Report.{RolledUp, ReportPut, HeardPost, HeardIn, sayingFor, Responds};
 use batch::closing;
 use batch::closing::Report;
 use console::input;
+use console::input::Arrived;
 use console::input::Stream;
 use console::output;
 use console::output::Said;
@@ -81,20 +82,20 @@ fn respond(heard: Heard, answers: &[u8], out: &[u8], text: &mut [u8; 350000]) ->
     }
 }
 
-// That what is handed over is what `roll` is to say of the stream is what this asks; what reaches a descriptor no contract can say.
-fn hand_over(stream: Stream, buf: &[u8], said: Said, text: &[u8; 350000])
-    requires { ⌜ Responds stream (now buf) said (now text) ⌝ }
+// That what is handed over is what `roll` is to say of the stream that was read into this buffer is what this asks; what reaches a descriptor no contract can say.
+fn hand_over(arrived: Arrived, buf: &[u8], said: Said, text: &[u8; 350000])
+    requires { ⌜ ArrivedIn (now buf) arrived × Responds (arrived .stream) (now buf) said (now text) ⌝ }
 {
     output::say(b"roll", said, text);
 }
 
 // Makes what there is to say, and hands it over.
-fn tell(stream: Stream, buf: &[u8], heard: Heard, answers: &[u8; 65536], out: &[u8; 65536])
-    requires { ⌜ HeardPost stream (now buf) heard (now answers) (now out) ⌝ }
+fn tell(arrived: Arrived, buf: &[u8], heard: Heard, answers: &[u8; 65536], out: &[u8; 65536])
+    requires { ⌜ ArrivedIn (now buf) arrived × HeardPost (arrived .stream) (now buf) heard (now answers) (now out) ⌝ }
 {
     let mut text = [0u8; 350000];
     let said = respond(heard, answers, out, &mut text);
-    hand_over(stream, buf, said, &text);
+    hand_over(arrived, buf, said, &text);
 }
 
 // The program `roll`: reads a batch from standard input, rolls it up and says what there is to say. The buffer has one byte more than the longest batch.
@@ -104,10 +105,11 @@ pub fn roll() {
     let mut buf = [0u8; 65537];
     let mut answers = [0u8; 65536];
     let mut out = [0u8; 65536];
-    let stream = input::read_all(STDIN_FILENO, &mut buf);
+    let arrived = input::read_all(STDIN_FILENO, &mut buf);
+    let stream = arrived.stream;
     let heard = hear(stream, &buf, &mut answers, &mut out);
     match heard {
-        Heard::Batch(r) => tell(stream, &buf, Heard::Batch(r), &answers, &out),
-        Heard::Nothing => tell(stream, &buf, Heard::Nothing, &answers, &out),
+        Heard::Batch(r) => tell(arrived, &buf, Heard::Batch(r), &answers, &out),
+        Heard::Nothing => tell(arrived, &buf, Heard::Nothing, &answers, &out),
     }
 }

@@ -1,5 +1,6 @@
 -- `roll` is safe, and tells what was heard of the stream that was read: the buffer is longer than a batch may be.
 use mathlib.Core.Path.{subst}
+use Rattle.console.proofs.InputLaws.{arrived-stream}
 use Rattle.reporting.specs.declared.Heard.{Heard}
 use Rattle.reporting.specs.Report.{HeardPost}
 use borrow.Author.Needs.{needs}
@@ -16,7 +17,7 @@ slice-aggregate-hear : tie.Need-slice-aggregate-hear
 slice-aggregate-hear c = search needs
 
 hear-requires : tie.Need-hear-requires
-hear-requires c κs = search needs
+hear-requires c κs = (search needs, arrived-stream (c .before .before .before .before .read-all .last .1 .0) (c .before .before .before .before .read-all .result) (c .before .before .before .before .read-all .ensures))
 
 enum-known-heard : tie.Need-enum-known-heard
 enum-known-heard c = search needs
@@ -25,7 +26,7 @@ slice-aggregate-tell : tie.Need-slice-aggregate-tell
 slice-aggregate-tell c = search needs
 
 tell-requires : tie.Need-tell-requires
-tell-requires c κs = subst (λ (h : Heard). HeardPost (c .before .before .before .before .before .before .before .before .before .before .before .read-all .result) (c .before .before .before .before .before .before .before .before .before .before .before .read-all .last .1 .0) h (c .before .before .before .before .before .before .hear .last .1 .1 .0) (c .before .before .before .before .before .before .hear .last .1 .1 .1 .0)) (c .before .before .before .before .heard .given .1) (c .before .before .before .before .before .before .hear .ensures)
+tell-requires c κs = (c .before .before .before .before .before .before .before .before .before .before .before .read-all .ensures, subst (λ (h : Heard). HeardPost (c .before .before .before .before .before .before .before .before .before .before .before .read-all .result .stream) (c .before .before .before .before .before .before .before .before .before .before .before .read-all .last .1 .0) h (c .before .before .before .before .before .before .hear .last .1 .1 .0) (c .before .before .before .before .before .before .hear .last .1 .1 .1 .0)) (c .before .before .before .before .heard .given .1) (c .before .before .before .before .before .before .hear .ensures))
 
 enum-told : tie.Need-enum-told
 enum-told c = search needs
@@ -34,7 +35,7 @@ slice-aggregate-tell-2 : tie.Need-slice-aggregate-tell-2
 slice-aggregate-tell-2 c = search needs
 
 tell-requires-2 : tie.Need-tell-requires-2
-tell-requires-2 c κs = subst (λ (h : Heard). HeardPost (c .before .before .before .before .before .before .before .before .before .before .read-all .result) (c .before .before .before .before .before .before .before .before .before .before .read-all .last .1 .0) h (c .before .before .before .before .before .hear .last .1 .1 .0) (c .before .before .before .before .before .hear .last .1 .1 .1 .0)) (c .before .before .before .enum-told .given .1) (c .before .before .before .before .before .hear .ensures)
+tell-requires-2 c κs = (c .before .before .before .before .before .before .before .before .before .before .read-all .ensures, subst (λ (h : Heard). HeardPost (c .before .before .before .before .before .before .before .before .before .before .read-all .result .stream) (c .before .before .before .before .before .before .before .before .before .before .read-all .last .1 .0) h (c .before .before .before .before .before .hear .last .1 .1 .0) (c .before .before .before .before .before .hear .last .1 .1 .1 .0)) (c .before .before .before .enum-told .given .1) (c .before .before .before .before .before .hear .ensures))
 
 returns : tie.Need-returns
 returns c = search needs

@@ -6,10 +6,10 @@ use Rattle.reporting.proofs.tell.Statement.{statement}
 use Rattle.reporting.proofs.tell.Tie as tie
 
 respond-requires : tie.Need-respond-requires
-respond-requires c κs = heard-in (c .before .before .before .before .pre)
+respond-requires c κs = heard-in (c .before .before .before .before .pre .1)
 
 hand-over-requires : tie.Need-hand-over-requires
-hand-over-requires c κs = let o = c .before .before .before .before .before .before in responds (now (o .args .buf)) (o .pre) (c .before .respond .ensures)
+hand-over-requires c κs = let o = c .before .before .before .before .before .before in (o .pre .0, responds (now (o .args .buf)) (o .pre .1) (c .before .respond .ensures))
 
 returns : tie.Need-returns
 returns c = search needs

@@ -1,7 +1,7 @@
 -- By what came in: the lines of the text, or a message.
 use native.Mathlib.Omega.{arith}
 use denote.Ref.{now}
-use Rattle.console.proofs.InputLaws.{streamed}
+use Rattle.console.proofs.InputLaws.{arrived-stream, streamed}
 use Rattle.exports.proofs.ReplyLaws.{pack-said, pack-complained, too-long-said}
 use borrow.Author.Needs.{needs}
 use Rattle.exports.proofs.replies.pack_reply.Statement.{statement}
@@ -11,10 +11,10 @@ enum-known-stream : tie.Need-enum-known-stream
 enum-known-stream c = search needs
 
 slice-aggregate-pack-lines : tie.Need-slice-aggregate-pack-lines
-slice-aggregate-pack-lines c = streamed (now (c .before .before .before .before .before .before .before .args .lines)) (c .before .before .before .before .before .before .before .args .stream) (c .before .before .stream .given .0 .0) (c .before .before .stream .given .1) (c .before .before .before .before .before .before .before .pre .streamed) .1
+slice-aggregate-pack-lines c = streamed (now (c .before .before .before .before .before .before .before .args .lines)) (c .before .before .before .before .before .before .before .args .arrived .stream) (c .before .before .stream .given .0 .0) (c .before .before .stream .given .1) (arrived-stream (now (c .before .before .before .before .before .before .before .args .lines)) (c .before .before .before .before .before .before .before .args .arrived) (c .before .before .before .before .before .before .before .pre .read-in)) .1
 
 pack-lines-requires : tie.Need-pack-lines-requires
-pack-lines-requires c κs = (omega (arith, streamed (now (c .before .before .before .before .before .before .before .before .before .args .lines)) (c .before .before .before .before .before .before .before .before .before .args .stream) (c .before .before .before .before .stream .given .0 .0) (c .before .before .before .before .stream .given .1) (c .before .before .before .before .before .before .before .before .before .pre .streamed), c .before .before .before .before .before .before .before .before .before .pre .spare-size), c .before .before .before .before .before .before .before .before .before .pre .batch-size)
+pack-lines-requires c κs = (omega (arith, streamed (now (c .before .before .before .before .before .before .before .before .before .args .lines)) (c .before .before .before .before .before .before .before .before .before .args .arrived .stream) (c .before .before .before .before .stream .given .0 .0) (c .before .before .before .before .stream .given .1) (arrived-stream (now (c .before .before .before .before .before .before .before .before .before .args .lines)) (c .before .before .before .before .before .before .before .before .before .args .arrived) (c .before .before .before .before .before .before .before .before .before .pre .read-in)), c .before .before .before .before .before .before .before .before .before .pre .spare-size), c .before .before .before .before .before .before .before .before .before .pre .batch-size)
 
 enum-told : tie.Need-enum-told
 enum-told c = search needs

@@ -1,6 +1,6 @@
 -- By what came in: a batch, or what is none by its length, or a message.
 use denote.Ref.{now}
-use Rattle.console.proofs.InputLaws.{streamed}
+use Rattle.console.proofs.InputLaws.{arrived-stream, streamed}
 use Rattle.exports.proofs.ReplyLaws.{unpack-said, unpack-complained, full-said}
 use borrow.Author.Needs.{needs}
 use Rattle.exports.proofs.replies.unpack_reply.Statement.{statement}
@@ -10,7 +10,7 @@ enum-known-stream : tie.Need-enum-known-stream
 enum-known-stream c = search needs
 
 slice-aggregate-unpack-batch : tie.Need-slice-aggregate-unpack-batch
-slice-aggregate-unpack-batch c = streamed (now (c .before .before .before .before .before .before .before .args .buf)) (c .before .before .before .before .before .before .before .args .stream) (c .before .before .stream .given .0 .0) (c .before .before .stream .given .1) (c .before .before .before .before .before .before .before .pre .streamed) .1
+slice-aggregate-unpack-batch c = streamed (now (c .before .before .before .before .before .before .before .args .buf)) (c .before .before .before .before .before .before .before .args .arrived .stream) (c .before .before .stream .given .0 .0) (c .before .before .stream .given .1) (arrived-stream (now (c .before .before .before .before .before .before .before .args .buf)) (c .before .before .before .before .before .before .before .args .arrived) (c .before .before .before .before .before .before .before .pre .read-in)) .1
 
 unpack-batch-requires : tie.Need-unpack-batch-requires
 unpack-batch-requires c κs = search needs
