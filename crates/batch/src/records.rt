@@ -8,6 +8,7 @@ ghost use Rattle.batch.specs.Chain.{wordAt, isRecord, isBatch};
 ghost use Rattle.batch.specs.Batch.{RolledPost};
 use rollup::accumulator::Accumulator;
 use rollup::adding;
+use rollup::adding::Fitting;
 
 // How the chain ended: with an index of zero; with a question's number, 24 or 25; or with more records than there are cells for answers.
 pub enum Ending {
@@ -79,7 +80,11 @@ fn add_records(
     requires { ⌜ isBatch (now batch) ≡ true ⌝ }
     ensures { λ r. ⌜ RolledPost (now (batch .entry)) (mem (now (registers .entry)) (now (sparse .entry)) (now (pending .entry))) (length (now (scratch .entry))) r (mem (now (registers .exit)) (now (sparse .exit)) (now (pending .exit))) (now (answers .entry)) (now (answers .exit)) ⌝ }
 {
-    let mut head = Accumulator::new();
+    let head = Accumulator::new();
+    let mut fitting = Fitting {
+        head,
+        distinct: false,
+    };
     let mut before: usize = 0;
     let mut at = word_at(batch, 0);
     let mut k: usize = 0;
@@ -87,7 +92,7 @@ fn add_records(
         if !is_record(batch, before, at) {
             let ending = Ending::Refused(25);
             return Rolled {
-                head,
+                head: fitting.head,
                 records: k,
                 ending,
             };
@@ -95,7 +100,7 @@ fn add_records(
         if k == answers.len() {
             let ending = Ending::Full;
             return Rolled {
-                head,
+                head: fitting.head,
                 records: k,
                 ending,
             };
@@ -103,14 +108,14 @@ fn add_records(
         let start = at + 8;
         let end = start + word_at(batch, at + 4);
         let r = adding::add_fitting(
-            head,
+            fitting,
             registers,
             sparse,
             pending,
             scratch,
             &batch[start..end],
         );
-        head = r.head;
+        fitting = r.left;
         answers[k] = r.answer;
         k += 1;
         before = at;
@@ -118,7 +123,7 @@ fn add_records(
     }
     let ending = Ending::Whole;
     Rolled {
-        head,
+        head: fitting.head,
         records: k,
         ending,
     }

@@ -10,6 +10,7 @@ ghost use Rattle.capi.specs.Folds.{endsFit, foldFits, FoldPre, FoldedPos
 use rollup::accumulator::Accumulator;
 use rollup::adding;
 use rollup::adding::Added;
+use rollup::adding::Fitting;
 use rollup::fitting;
 
 // Whether it was so before and `end` is not before `start`, with no branch in a loop.
@@ -59,28 +60,28 @@ pub(crate) fn fold_states(
     requires { ⌜ FoldPre a (mem (now registers) (now sparse) (now pending)) (now bytes) (now ends) (now answers) ⌝ }
     ensures { λ r. ⌜ FoldedPost a (mem (now (registers .entry)) (now (sparse .entry)) (now (pending .entry))) (length (now (scratch .entry))) (now (bytes .entry)) (now (ends .entry)) (now (answers .entry)) r (mem (now (registers .exit)) (now (sparse .exit)) (now (pending .exit))) (now (answers .exit)) ⌝ }
 {
-    let mut head = a;
-    let mut distinct = false;
+    let mut fitting = Fitting {
+        head: a,
+        distinct: false,
+    };
     let mut start: usize = 0;
     let mut i: usize = 0;
     while i < ends.len() {
         let end = ends[i] as usize;
-        let r = adding::add_knowing(
-            head,
+        let r = adding::add_fitting(
+            fitting,
             registers,
             sparse,
             pending,
             scratch,
             &bytes[start..end],
-            distinct,
         );
-        head = r.head;
-        distinct = r.distinct;
+        fitting = r.left;
         answers[i] = r.answer;
         start = end;
         i += 1;
     }
-    head
+    fitting.head
 }
 
 // Adds one state: what `rollup::adding::add` promises, by the loop.

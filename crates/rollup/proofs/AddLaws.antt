@@ -19,10 +19,12 @@ use Rattle.rollup.specs.declared.judging.Judged.the-variants.{State as J
 use Rattle.rollup.specs.declared.accumulator.Accumulator.{Accumulator}
 use Rattle.rollup.specs.Accumulator.{Mem, mem, fits}
 use Rattle.rollup.specs.Header.{listOf}
-use Rattle.rollup.specs.Adding.{After, Outcome, refuse, accept, acceptedAfter, judge, hasRoom, listedIn, question, opened, addOutcome, judgeState, sparseAfter, Shows, Free, AddPost}
+use Rattle.rollup.specs.Adding.{Outcome, refuse, accept, acceptedAfter, judge, hasRoom, listedIn, question, opened, addOutcome, judgeState, Shows, Free, AddPost}
 use Rattle.rollup.specs.Judging.{judgedRefusal, JudgePost, RoomPre, ListedPre}
-use Rattle.rollup.specs.DensePaths.{StartPost, DensePost}
+use Rattle.rollup.specs.DensePaths.{DensePost}
 use Rattle.rollup.specs.Accepting.{AcceptPre, decodedRefusal}
+use Rattle.rollup.specs.Taking.{After, sparseAfter}
+use Rattle.rollup.specs.Starting.{StartPost}
 use Rattle.rollup.proofs.JudgeLaws.{judged-state, judged-short, judged-no, listed-pre}
 
 -- ---- a question that is answered with yes, and one with no

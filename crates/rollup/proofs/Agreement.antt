@@ -18,8 +18,9 @@ use Rattle.rollup.specs.declared.accumulator.Accumulator.{Accumulator}
 use Rattle.rollup.specs.declared.adding.Added.{Added}
 use Rattle.rollup.specs.Accumulator.{Mem, fresh}
 use Rattle.rollup.specs.Header.{maskOf}
-use Rattle.rollup.specs.Adding.{signedMin, unchanged, isStarted, Shows}
+use Rattle.rollup.specs.Adding.{isStarted, Shows}
 use Rattle.rollup.specs.Calls.{Call, added, wrote, moved, Moved, Steps, begun, adding, writing, moving, Run, accepted, stateIn, valuesIn, states, registersIn, over, smallestPrecision, smallestSparsePrecision, commonBits, largestRegisters, rollupRegisters, Answered, NoZeroRank, Agrees, DemandThree, OrderFree}
+use Rattle.rollup.specs.Taking.{signedMin, unchanged}
 use Rattle.rollup.proofs.ViewLaws.{IsRefused, IsAccepted, add-view, run-fits, sparse-small}
 use Rattle.rollup.proofs.AgreementLaws.{lowered-here, Took, same-registers, moved-registers, in-length, first-took, more-took}
 use Rattle.rollup.proofs.FoldLaws.{over-one, over-more, over-through, over-set, Any, min-joins, and-joins, Small, signed-joins, larger-joins}

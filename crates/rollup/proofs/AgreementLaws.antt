@@ -26,9 +26,9 @@ use Rattle.rollup.specs.declared.accumulator.Form.the-variants.{Unstarte
 use Rattle.rollup.specs.declared.accumulator.Accumulator.{Accumulator}
 use Rattle.rollup.specs.Accumulator.{Mem, keptOf, waitingOf, limit}
 use Rattle.rollup.specs.Header.{dataOf, listOf, isEmpty, maskOf}
-use Rattle.rollup.specs.Adding.{After, unchanged, denseHead, commonMask, sumCount, startAfter, settle, waits, listAfter, sparseAfter, signedMin, signedKey, raisedByState, denseAfter, acceptedAfter, isStarted, Ready, Shows}
-use Rattle.rollup.specs.SparsePaths.{asList, asDense, asWaiting}
+use Rattle.rollup.specs.Adding.{acceptedAfter, isStarted, Ready, Shows}
 use Rattle.rollup.specs.Calls.{Moved, valuesIn, listRegisters, registersIn, rollupRegisters}
+use Rattle.rollup.specs.Taking.{After, unchanged, denseHead, commonMask, sumCount, startAfter, settle, waits, listAfter, sparseAfter, signedMin, signedKey, raisedTo, denseAfter, asList, asDense, asWaiting}
 use Rattle.rollup.proofs.FitLaws.{FitSparse, FitDense, fit-sparse, fit-dense}
 use Rattle.rollup.proofs.JudgeLaws.{JudgedFacts, judged-facts, none-is}
 use Rattle.rollup.proofs.KeepsLaws.{no-data, some-data, registers-room, vs-valid, both-valid}

@@ -24,8 +24,10 @@ use Rattle.rollup.specs.declared.accumulator.Form.{Form}
 use Rattle.rollup.specs.declared.accumulator.Accumulator.{Accumulator}
 use Rattle.rollup.specs.Accumulator.{mem}
 use Rattle.rollup.specs.Header.{dataOf, listOf, isEmpty, maskOf}
-use Rattle.rollup.specs.Adding.{After, listHead, denseHead, commonMask, sumCount, signedMin, raisedByState, denseAfter, wantedPrecision, Shows}
-use Rattle.rollup.specs.DensePaths.{LowerOwnPre, ownAt, LowerOwnPost, RaiseByDataPre, RaiseByListPre, RaisePre, StartPre, StartPost, DensePre, DensePost}
+use Rattle.rollup.specs.Adding.{wantedPrecision, Shows}
+use Rattle.rollup.specs.DensePaths.{LowerOwnPre, ownAt, LowerOwnPost, RaiseByListPre, RaisePre, DensePre, DensePost, RaiseByRowPre}
+use Rattle.rollup.specs.Taking.{After, listHead, denseHead, commonMask, sumCount, signedMin, raisedTo, denseAfter}
+use Rattle.rollup.specs.Starting.{StartPre, StartPost}
 use Rattle.rollup.proofs.FitLaws.{FitDense, fit-dense}
 use Rattle.rollup.proofs.JudgeLaws.{JudgedFacts, judged-facts, Room, room-facts}
 use Rattle.rollup.proofs.WaysLaws.{startDense, start-is}

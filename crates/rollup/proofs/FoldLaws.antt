@@ -15,8 +15,8 @@ use borrow.Author.Tests.{ltb-true, ltb-false}
 use Rattle.wire.specs.State.{State}
 use Rattle.lists.specs.Registers.{larger}
 use Rattle.lists.proofs.RankLaws.{larger-length, larger-assoc, larger-comm, larger-same}
-use Rattle.rollup.specs.Adding.{signedKey, signedMin}
 use Rattle.rollup.specs.Calls.{over}
+use Rattle.rollup.specs.Taking.{signedKey, signedMin}
 
 -- ---- one step, and a function of the whole
 

@@ -34,8 +34,9 @@ use Rattle.rollup.specs.declared.judging.Judged.{Judged}
 use Rattle.rollup.specs.declared.judging.Judged.the-variants.{State as JudgedState, Refused}
 use Rattle.rollup.specs.Accumulator.{Mem, normalRange, sparseRange, sparseFits, denseFits, fitsForm, fits}
 use Rattle.rollup.specs.Header.{ask, dataOf, listOf, isEmpty, isValueType, maskOf, headerAnswer}
-use Rattle.rollup.specs.Adding.{commonMask, isStarted, masksMeet, hasField, samePair, carried, judgeState, judge, wantedPrecision, wantedRegisters, wantedCells, hasRoom, listedIn}
+use Rattle.rollup.specs.Adding.{isStarted, masksMeet, hasField, samePair, carried, judgeState, judge, wantedPrecision, wantedRegisters, wantedCells, hasRoom, listedIn}
 use Rattle.rollup.specs.Judging.{kindAsked, needsPair, structureAsked, judgedMeans, JudgedInside, JudgePost, parsedRefusal, RoomPre, ListedPre}
+use Rattle.rollup.specs.Taking.{commonMask}
 use Rattle.rollup.proofs.FitLaws.{both-yes, both-no, above-zero}
 
 -- ---- Bools

@@ -25,9 +25,10 @@ use Rattle.rollup.specs.declared.accumulator.Form.the-variants.{Unstarte
 use Rattle.rollup.specs.declared.accumulator.Accumulator.{Accumulator}
 use Rattle.rollup.specs.Accumulator.{Mem, keptOf, waitingOf, limit, fits}
 use Rattle.rollup.specs.Header.{dataOf, listOf, isEmpty, maskOf}
-use Rattle.rollup.specs.Adding.{After, refuse, listHead, denseHead, commonMask, sumCount, startAfter, settle, waits, listAfter, sparseAfter, signedMin, signedKey, raisedByState, denseAfter, acceptedAfter, wantedPrecision, wantedCells, hasRoom, Ready, Shows}
+use Rattle.rollup.specs.Adding.{refuse, acceptedAfter, wantedPrecision, wantedCells, hasRoom, Ready, Shows}
 use Rattle.rollup.specs.declared.writing.Written.{Written}
 use Rattle.rollup.specs.Writing.{WritePost}
+use Rattle.rollup.specs.Taking.{After, listHead, denseHead, commonMask, sumCount, startAfter, settle, waits, listAfter, sparseAfter, signedMin, signedKey, raisedTo, denseAfter}
 use Rattle.rollup.proofs.FitLaws.{limit-small, FitSparse, FitDense, fit-none, fit-none-back, fit-sparse, fit-sparse-back, fit-dense, fit-dense-back}
 use Rattle.rollup.proofs.JudgeLaws.{JudgedFacts, judged-facts}
 use Rattle.rollup.proofs.WaysLaws.{start-ways, settle-ways, list-ways, sparse-ways}

@@ -19,9 +19,10 @@ use Rattle.rollup.specs.declared.accumulator.Form.the-variants.{Unstarte
 use Rattle.rollup.specs.declared.accumulator.Accumulator.{Accumulator}
 use Rattle.rollup.specs.Accumulator.{Mem, keptOf, waitingOf, limit}
 use Rattle.rollup.specs.Header.{dataOf, listOf, isEmpty}
-use Rattle.rollup.specs.Adding.{After, settle, waits, listAfter, sparseAfter, acceptedAfter, Ready, Shows}
-use Rattle.rollup.specs.SparsePaths.{KnownDistinct}
+use Rattle.rollup.specs.Adding.{acceptedAfter, Ready, Shows}
 use Rattle.rollup.specs.Accepting.{AcceptPre, stillDistinct}
+use Rattle.rollup.specs.Taking.{After, settle, waits, listAfter, sparseAfter}
+use Rattle.rollup.specs.Paths.{KnownDistinct}
 use Rattle.rollup.proofs.WaysLaws.{settle-ways, list-ways, sparse-ways}
 
 -- ---- the code's questions

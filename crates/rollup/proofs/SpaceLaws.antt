@@ -16,8 +16,9 @@ use Rattle.rollup.specs.declared.accumulator.Accumulator.{Accumulator}
 use Rattle.rollup.specs.declared.adding.Added.{Added}
 use Rattle.rollup.specs.Accumulator.{Mem, limit, fits}
 use Rattle.rollup.specs.Header.{dataOf, listOf, isEmpty}
-use Rattle.rollup.specs.Adding.{After, settle, waits, listAfter, sparseAfter, denseAfter, acceptedAfter, isStarted, wantedPrecision, AddPost}
+use Rattle.rollup.specs.Adding.{acceptedAfter, isStarted, wantedPrecision, AddPost}
 use Rattle.rollup.specs.Calls.{Call, Steps, begun, adding, writing, moving, Unmoved, stateIn, valuesIn}
+use Rattle.rollup.specs.Taking.{After, settle, waits, listAfter, sparseAfter, denseAfter}
 use Rattle.rollup.proofs.JudgeLaws.{room-facts}
 use Rattle.rollup.proofs.WaysLaws.{start-ways, settle-ways, list-ways, sparse-ways}
 use Rattle.rollup.proofs.ViewLaws.{IsRefused, IsAccepted, add-view, steps-fit}

@@ -33,10 +33,12 @@ use Rattle.rollup.specs.declared.accumulator.Accumulator.{Accumulator}
 use Rattle.rollup.specs.Accumulator.{Mem, mem, keptOf, waitingOf, limit}
 use Rattle.wire.specs.State.{State}
 use Rattle.rollup.specs.Header.{dataOf, listOf, isEmpty, maskOf}
-use Rattle.rollup.specs.Adding.{After, waits, inserts, settle, listAfter, sparseAfter, commonMask, sumCount, wantedPrecision, wantedRegisters, wantedCells, hasRoom, Ready, Shows}
+use Rattle.rollup.specs.Adding.{wantedPrecision, wantedRegisters, wantedCells, hasRoom, Ready, Shows}
 use Rattle.rollup.proofs.FitLaws.{FitSparse, fit-sparse}
 use Rattle.rollup.proofs.JudgeLaws.{judged-facts}
-use Rattle.rollup.specs.SparsePaths.{counted, listed, densed, asList, asDense, settled, SettlePre, Leaves, WaitPre, ListReady, ListRoom, insertsNow, unionBytes, UnionPost, BackPre, JoinPre, asWaiting, mergedAfter, MergeSparsePre, DensifyPre}
+use Rattle.rollup.specs.SparsePaths.{SettlePre, Leaves, ListReady, ListRoom, insertsNow, unionBytes, UnionPost, BackPre, JoinPre, mergedAfter, DensifyPre, MergeInPre}
+use Rattle.rollup.specs.Taking.{After, waits, inserts, settle, listAfter, sparseAfter, commonMask, sumCount, counted, withList, densed, asList, asDense, asWaiting}
+use Rattle.rollup.specs.Paths.{WaitPre}
 
 -- ---- an encoding's precisions
 

@@ -18,8 +18,9 @@ use Rattle.rollup.specs.declared.accumulator.Accumulator.{Accumulator}
 use Rattle.rollup.specs.declared.adding.Added.{Added}
 use Rattle.rollup.specs.Accumulator.{Mem, fits, fresh}
 use Rattle.rollup.specs.Header.{listOf, headerAnswer}
-use Rattle.rollup.specs.Adding.{Outcome, unchanged, refuse, accept, acceptedAfter, masksMeet, carried, judgeState, judge, hasRoom, listedIn, addOutcome, Ready, Shows, AddPost}
+use Rattle.rollup.specs.Adding.{Outcome, refuse, accept, acceptedAfter, masksMeet, carried, judgeState, judge, hasRoom, listedIn, addOutcome, Ready, Shows, AddPost}
 use Rattle.rollup.specs.Calls.{Call, Steps, begun, adding, writing, moving, Run, valueOr, stateIn, valuesIn}
+use Rattle.rollup.specs.Taking.{unchanged}
 use Rattle.rollup.proofs.FitLaws.{fit-none-back}
 use Rattle.rollup.proofs.JudgeLaws.{judged-same}
 use Rattle.rollup.proofs.AddLaws.{add-judged, add-full, add-listed, add-accepted}

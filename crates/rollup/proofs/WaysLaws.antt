@@ -12,8 +12,7 @@ use Rattle.lists.specs.Registers.{withRegisters}
 use Rattle.rollup.specs.declared.accumulator.Accumulator.{Accumulator}
 use Rattle.rollup.specs.Accumulator.{Mem, keptOf, waitingOf, limit}
 use Rattle.rollup.specs.Header.{isEmpty, dataOf, listOf, maskOf}
-use Rattle.rollup.specs.Adding.{After, listHead, denseHead, startAfter, settle, waits, inserts, listAfter, sparseAfter}
-use Rattle.rollup.specs.SparsePaths.{asList, asDense, asWaiting}
+use Rattle.rollup.specs.Taking.{After, listHead, denseHead, startAfter, settle, waits, inserts, listAfter, sparseAfter, asList, asDense, asWaiting}
 use Rattle.rollup.proofs.SparseLaws.{countedBy, unlisted, fromData}
 
 -- ---- the first state

@@ -21,8 +21,9 @@ use Rattle.rollup.specs.declared.accumulator.Form.the-variants.{Unstarte
 use Rattle.rollup.specs.declared.accumulator.Accumulator.{Accumulator}
 use Rattle.rollup.specs.Accumulator.{Mem, keptOf, waitingOf, limit, fits, HeadWidths}
 use Rattle.rollup.specs.Header.{dataOf, listOf, isEmpty}
-use Rattle.rollup.specs.Adding.{After, signedMin, signedKey, waits, startAfter, settle, listAfter, sparseAfter, denseAfter, acceptedAfter, Ready}
+use Rattle.rollup.specs.Adding.{acceptedAfter, Ready}
 use Rattle.rollup.specs.Calls.{Call, Steps, begun, adding, writing, moving, Run, valueOr, stateIn, valuesIn}
+use Rattle.rollup.specs.Taking.{After, signedMin, signedKey, waits, startAfter, settle, listAfter, sparseAfter, denseAfter}
 use Rattle.rollup.proofs.FitLaws.{FitSparse, fit-sparse}
 use Rattle.rollup.proofs.SparseLaws.{counts-short}
 use Rattle.rollup.proofs.WaysLaws.{start-ways, settle-ways, list-ways, sparse-ways}

@@ -1,38 +1,28 @@
--- Adding a state: the questions in order, and then the paths (document 01, module 6 and "The questions").
+-- Adding a state: the questions in order, and then it is taken in (document 01, module 6 and "The questions").
 use mathlib.Core.Path.{_≡_}
-use mathlib.Core.List.{List, [], _++_, List·Permᴰ}
+use mathlib.Core.List.{List, [], List·Permᴰ}
 use mathlib.Core.Option.{Option, none, some}
 use mathlib.Core.Bool.{Bool, true, false, cond, _&&_, _||_, not}
-use Prim.Native.Nat.{ℕ, _+_, _-_, _*_, _%_, _^_, _≤_, min}
-use lib.Dec.{ltb, leb, eqb}
-use lib.Bits.{bitAnd}
-use lib.ListN.{length, replicate}
+use Prim.Native.Nat.{ℕ, _+_, _*_}
+use lib.Dec.{leb, eqb}
+use lib.ListN.{length}
 use Rattle.wire.specs.Reading.{Read, got, refused, andThen}
 use Rattle.wire.specs.State.{State, readState}
-use Rattle.lists.specs.Lists.{decodeOf, merged, written, distinctSlots}
-use Rattle.lists.specs.Registers.{registerBytes, registersOf, withRegisters, zeros, raisedBy, raisedLower, larger, lowered}
+use Rattle.lists.specs.Lists.{decodeOf}
+use Rattle.lists.specs.Registers.{registerBytes}
 use Rattle.rollup.specs.declared.accumulator.Form.{Form}
 use Rattle.rollup.specs.declared.accumulator.Form.the-variants.{Unstarted, Sparse, Dense}
 use Rattle.rollup.specs.declared.accumulator.Accumulator.{Accumulator}
+use Rattle.rollup.specs.declared.incoming.Incoming.{Incoming}
 use Rattle.rollup.specs.declared.adding.Added.{Added}
-use Rattle.rollup.specs.Accumulator.{Mem, keptOf, waitingOf, limit, fits}
+use Rattle.rollup.specs.Accumulator.{Mem, keptOf, waitingOf, fits}
 use Rattle.rollup.specs.Header.{dataOf, listOf, isEmpty, maskOf, headerAnswer}
-
--- What a call is to leave: the head, the register bytes, the values kept, and those waiting, in some order.
-pub record After : Type 0 where
-  pub head : Accumulator
-  pub registers : List ℕ
-  pub kept : List ℕ
-  pub waiting : List ℕ
+use Rattle.rollup.specs.Taking.{After, unchanged, commonMask, takenAfter}
 
 -- The answer, 0 for accepted, and what is left.
 pub record Outcome : Type 0 where
   pub answer : ℕ
   pub after : After
-
--- Nothing is changed.
-abbrev pub unchanged : Accumulator → Mem → After
-unchanged a m = record { head = a; registers = m .registers; kept = keptOf a m; waiting = waitingOf a m }
 
 -- "A refusal returns its number and the head unchanged; kept, registers and output too."
 abbrev pub refuse : ℕ → Accumulator → Mem → Outcome
@@ -41,177 +31,29 @@ refuse n a m = record { answer = n; after = unchanged a m }
 abbrev pub accept : After → Outcome
 accept x = record { answer = 0; after = x }
 
--- ---- heads
+-- ---- a state is taken in
 
--- A head of list form, and a dense one.
-abbrev pub listHead : (mask valueType count p s size len bytes waits : ℕ) → Accumulator
-listHead mask valueType count p s size len bytes waits =
+-- The numbers of a state with so many list bytes and so many values. Each value counts at five bytes in the waiting test.
+abbrev pub numbersOf : State → (bytes k : ℕ) → Incoming
+numbersOf st bytes k =
     record {
-      form = Sparse;
-      allowed = mask;
-      «value_type» = valueType;
-      «num_values» = count;
-      precision = p;
-      «sparse_precision» = s;
-      «sparse_size» = size;
-      «sparse_len» = len;
-      «sparse_bytes» = bytes;
-      «pending_len» = waits;
+      mask = maskOf (st .valueType);
+      «value_type» = st .valueType;
+      «num_values» = st .numValues;
+      precision = st .hll .precision;
+      «sparse_precision» = st .hll .sparsePrecision;
+      «sparse_size» = st .hll .sparseSize;
+      «list_bytes» = bytes;
+      growth = 5 * k;
+      most = 2048;
     }
 
-abbrev pub denseHead : (mask valueType count p s size bytes : ℕ) → Accumulator
-denseHead mask valueType count p s size bytes =
-    record {
-      form = Dense;
-      allowed = mask;
-      «value_type» = valueType;
-      «num_values» = count;
-      precision = p;
-      «sparse_precision» = s;
-      «sparse_size» = size;
-      «sparse_len» = 0;
-      «sparse_bytes» = bytes;
-      «pending_len» = 0;
-    }
+abbrev pub stateNumbers : State → List ℕ → Incoming
+stateNumbers st vs = numbersOf st (length (listOf st)) (length vs)
 
--- "Masks intersect; value counts add as signed 64-bit numbers that wrap."
-abbrev pub commonMask : Accumulator → State → ℕ
-commonMask a st = bitAnd (a .allowed) (maskOf (st .valueType))
-
-abbrev pub sumCount : Accumulator → State → ℕ
-sumCount a st = (a .«num_values» + st .numValues) % 2 ^ 64
-
--- ---- the first state
-
--- "The first state sets the head. Its list goes to kept, repeats included, and kept bytes is its field's length, L unchecked."
-unfoldable pub startAfter : Mem → State → List ℕ → After
-startAfter m st vs =
-    let p = st .hll .precision in
-    let s = st .hll .sparsePrecision in
-    let mask = maskOf (st .valueType) in
-    cond (isEmpty (dataOf st))
-    (record {
-      head = listHead mask (st .valueType) (st .numValues) p s (st .hll .sparseSize) (length vs) (length (listOf st)) 0;
-      registers = m .registers;
-      kept = vs;
-      waiting = [];
-    })
-    (record {
-      head = denseHead mask (st .valueType) (st .numValues) p s (st .hll .sparseSize) 0;
-      registers = withRegisters p (dataOf st) (m .registers);
-      kept = [];
-      waiting = [];
-    })
-
--- ---- a list roll-up
-
--- "After the last three, sparse size is the kept count; kept bytes ≥ L turns it dense, with sparse size, kept count and kept bytes 0."
-unfoldable pub settle : Accumulator → Mem → State → List ℕ → ℕ → After
-settle a m st l bytes =
-    let p = a .precision in
-    let s = a .«sparse_precision» in
-    cond (ltb bytes (limit p))
-    (record {
-      head = listHead (commonMask a st) (a .«value_type») (sumCount a st) p s (length l) (length l) bytes 0;
-      registers = m .registers;
-      kept = l;
-      waiting = [];
-    })
-    (record {
-      head = denseHead (commonMask a st) (a .«value_type») (sumCount a st) p s 0 0;
-      registers = withRegisters p (raisedBy p s (zeros p) l) (m .registers);
-      kept = [];
-      waiting = [];
-    })
-
--- "A list of k values at a sparse roll-up waits if kept bytes + 5 × waiting + 5 × k < L and waiting + k ≤ 2048."
-abbrev pub waits : Accumulator → ℕ → Bool
-waits a k = ltb (a .«sparse_bytes» + 5 * a .«pending_len» + 5 * k) (limit (a .precision)) && leb (a .«pending_len» + k) 2048
-
--- "With k ≤ 16 and 16 × k ≤ kept count, it is inserted"; and the Difference: "Where kept holds equal values or two marked values of one index
--- .. the roll-up merges instead."
-abbrev pub inserts : Accumulator → Mem → ℕ → Bool
-inserts a m k = leb k 16 && leb (16 * k) (a .«sparse_len») && distinctSlots (a .precision) (a .«sparse_precision») (keptOf a m)
-
-unfoldable pub listAfter : Accumulator → Mem → State → List ℕ → After
-listAfter a m st vs =
-    let p = a .precision in
-    let s = a .«sparse_precision» in
-    let kept = keptOf a m in
-    let waiting = waitingOf a m in
-    cond (waits a (length vs))
-    (record {
-      head =
-          listHead (commonMask a st) (a .«value_type») (sumCount a st) p s (a .«sparse_size») (a .«sparse_len») (a .«sparse_bytes»)
-          (a .«pending_len» + length vs);
-      registers = m .registers;
-      kept = kept;
-      waiting = waiting ++ vs;
-    })
-    (cond (not (eqb (a .«pending_len») 0)) (settle a m st (merged p s kept (waiting ++ vs)) (written (merged p s kept (waiting ++ vs))))
-    (cond (inserts a m (length vs))
-    (settle a m st (merged p s kept vs) (a .«sparse_bytes» + written (merged p s kept vs) - written kept))
-    (settle a m st (merged p s kept vs) (written (merged p s kept vs)))))
-
--- "Data turns a sparse roll-up dense first, waiting values set too, with those three numbers and the waiting count 0." "At a sparse roll-up
--- a state without list or data bytes changes no more."
-unfoldable pub sparseAfter : Accumulator → Mem → State → List ℕ → After
-sparseAfter a m st vs =
-    let p = a .precision in
-    let s = a .«sparse_precision» in
-    cond (isEmpty (dataOf st))
-    (cond (isEmpty (listOf st))
-    (record {
-      head =
-          listHead (commonMask a st) (a .«value_type») (sumCount a st) p s (a .«sparse_size») (a .«sparse_len») (a .«sparse_bytes»)
-          (a .«pending_len»);
-      registers = m .registers;
-      kept = keptOf a m;
-      waiting = waitingOf a m;
-    })
-    (listAfter a m st vs))
-    (record {
-      head = denseHead (commonMask a st) (a .«value_type») (sumCount a st) p s 0 0;
-      registers = withRegisters p (larger (raisedBy p s (zeros p) (keptOf a m ++ waitingOf a m)) (dataOf st)) (m .registers);
-      kept = [];
-      waiting = [];
-    })
-
--- ---- a dense roll-up
-
--- The smaller of two 32-bit numbers as signed ones.
-abbrev pub signedKey : ℕ → ℕ
-signedKey v = (v + 2 ^ 31) % 2 ^ 32
-
-abbrev pub signedMin : ℕ → ℕ → ℕ
-signedMin x y = cond (ltb (signedKey y) (signedKey x)) y x
-
--- The state's registers at precision q: its data lowered, or its list's values, raise what is there.
-abbrev pub raisedByState : ℕ → State → List ℕ → List ℕ → List ℕ
-raisedByState q st vs regs =
-    cond (isEmpty (dataOf st)) (raisedLower (st .hll .precision) (st .hll .sparsePrecision) (st .hll .precision - q) regs vs)
-    (larger regs (lowered (st .hll .precision - q) q (dataOf st)))
-
--- "A dense one takes any precision: p and s become the smaller of each; freed register bytes are zero, other bytes past 2^p untouched." Its kept bytes, which
--- question 1 does not ask for, stay as they are.
-unfoldable pub denseAfter : Accumulator → Mem → State → List ℕ → After
-denseAfter a m st vs =
-    let p = a .precision in
-    let q = min p (st .hll .precision) in
-    let own = lowered (p - q) q (registersOf p (m .registers)) in
-    record {
-      head =
-          denseHead (commonMask a st) (a .«value_type») (sumCount a st) q (signedMin (a .«sparse_precision») (st .hll .sparsePrecision)) (a .«sparse_size»)
-          (a .«sparse_bytes»);
-      registers = withRegisters p (raisedByState q st vs own ++ replicate (2 ^ p - 2 ^ q) 0) (m .registers);
-      kept = [];
-      waiting = [];
-    }
-
+-- What an accepted state leaves, of the roll-up's form: its data are the row, and vs the values of its list.
 abbrev pub acceptedAfter : Form → Accumulator → Mem → State → List ℕ → After
-acceptedAfter Unstarted a m st vs = startAfter m st vs
-acceptedAfter Sparse a m st vs = sparseAfter a m st vs
-acceptedAfter Dense a m st vs = denseAfter a m st vs
+acceptedAfter f a m st vs = takenAfter f a m (stateNumbers st vs) (dataOf st) vs
 
 -- ---- the questions
 
@@ -222,7 +64,7 @@ isStarted Dense = true
 
 -- "15: Started: do the masks meet?"
 abbrev pub masksMeet : Accumulator → State → Bool
-masksMeet a st = not (isStarted (a .form)) || not (eqb (commonMask a st) 0)
+masksMeet a st = not (isStarted (a .form)) || not (eqb (commonMask a (maskOf (st .valueType))) 0)
 
 abbrev pub hasField : {A : Type 0} → Option A → Bool
 hasField none = false
@@ -251,13 +93,13 @@ judge a bytes = cond (leb (length bytes) 2147483647) (andThen (readState bytes) 
 
 -- "17: Has register memory 2^p bytes (the roll-up's p, the state's if unstarted), and, where the sparse field is not empty, each u32 list kept +
 -- waiting + that field's byte length?"
-abbrev pub wantedPrecision : Form → Accumulator → State → ℕ
-wantedPrecision Unstarted a st = st .hll .precision
-wantedPrecision Sparse a st = a .precision
-wantedPrecision Dense a st = a .precision
+abbrev pub wantedPrecision : Form → Accumulator → ℕ → ℕ
+wantedPrecision Unstarted a p = p
+wantedPrecision Sparse a p = a .precision
+wantedPrecision Dense a p = a .precision
 
 abbrev pub wantedRegisters : Accumulator → State → ℕ
-wantedRegisters a st = registerBytes (wantedPrecision (a .form) a st)
+wantedRegisters a st = registerBytes (wantedPrecision (a .form) a (st .hll .precision))
 
 abbrev pub wantedCells : Accumulator → State → ℕ
 wantedCells a st = cond (isEmpty (listOf st)) 0 (a .«sparse_len» + a .«pending_len» + length (listOf st))
@@ -288,14 +130,6 @@ addOutcome a m room bytes =
     question (fits a m) 1 a m
     (opened (judge a bytes) a m
     (λ st. question (hasRoom a m room st) 17 a m (opened (listedIn st) a m (λ vs. accept (acceptedAfter (a .form) a m st vs)))))
-
--- What is known where a path begins.
-pub record Ready (a : Accumulator) (m : Mem) (room : ℕ) (st : State) (vs : List ℕ) : Type 0 where
-  pub fit : fits a m ≡ true
-  pub judged : judgeState a st ≡ got st []
-  pub space : hasRoom a m room st ≡ true
-  pub listed : listedIn st ≡ got vs []
-  pub short : length (listOf st) ≤ 2147483647
 
 -- ---- the contract
 

@@ -18,8 +18,9 @@ use Rattle.rollup.specs.declared.adding.Added.{Added}
 use Rattle.rollup.specs.declared.writing.Written.{Written}
 use Rattle.rollup.specs.Accumulator.{Mem, keptOf, waitingOf, fits, fresh, HeadWidths}
 use Rattle.rollup.specs.Header.{dataOf, isEmpty, maskOf}
-use Rattle.rollup.specs.Adding.{listedIn, signedMin, addOutcome, AddPost}
+use Rattle.rollup.specs.Adding.{listedIn, addOutcome, AddPost}
 use Rattle.rollup.specs.Writing.{stateForm, writeOutcome, WritePost}
+use Rattle.rollup.specs.Taking.{signedMin}
 
 -- ---- lists of calls
 

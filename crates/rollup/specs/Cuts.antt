@@ -14,7 +14,8 @@ use Rattle.lists.specs.Registers.{registerBytes, largest}
 use Rattle.rollup.specs.declared.accumulator.Accumulator.{Accumulator}
 use Rattle.rollup.specs.Accumulator.{Mem, mem, fresh, fits}
 use Rattle.rollup.specs.Header.{headerAnswer}
-use Rattle.rollup.specs.Adding.{Outcome, startAfter, judgeState, judge, hasRoom, addOutcome}
+use Rattle.rollup.specs.Adding.{Outcome, judgeState, judge, hasRoom, addOutcome}
+use Rattle.rollup.specs.Taking.{startAfter}
 
 -- Of bytes whose nested message stands last (`nestedLast`, in wire's specs/Layout) no proper prefix is accepted, whatever head and memory it meets.
 unfoldable pub NoCutAccepted : Type 0

@@ -1,18 +1,17 @@
--- What the functions of the first state and of a dense roll-up require and promise, besides `Shows`.
+-- What the functions of a dense roll-up require and promise, besides `Shows`.
 use mathlib.Core.Path.{_≡_}
-use mathlib.Core.List.{List, _++_}
+use mathlib.Core.List.{List}
 use mathlib.Core.Bool.{true}
-use Prim.Native.Nat.{ℕ, _-_, _^_, _<_, _≤_, min}
-use lib.ListN.{length, replicate}
-use Rattle.wire.specs.State.{State}
+use Prim.Native.Nat.{ℕ, _+_, _-_, _^_, _<_, _≤_, min}
+use lib.ListN.{length}
 use Rattle.lists.specs.Values.{Pair}
 use Rattle.lists.specs.Lists.{allValid}
-use Rattle.lists.specs.Registers.{registerBytes, registersOf, withRegisters, lowered, largest}
-use Rattle.rollup.specs.declared.accumulator.Form.the-variants.{Unstarted, Dense}
+use Rattle.lists.specs.Registers.{registerBytes, registersOf, withRegisters, loweredInPlace, largest}
 use Rattle.rollup.specs.declared.accumulator.Accumulator.{Accumulator}
+use Rattle.rollup.specs.declared.incoming.Incoming.{Incoming}
 use Rattle.rollup.specs.Accumulator.{mem}
-use Rattle.rollup.specs.Header.{dataOf}
-use Rattle.rollup.specs.Adding.{startAfter, denseAfter, Ready, Shows}
+use Rattle.rollup.specs.Taking.{denseAfter}
+use Rattle.rollup.specs.Adding.{Shows}
 
 -- ---- the roll-up's own registers
 
@@ -20,24 +19,20 @@ use Rattle.rollup.specs.Adding.{startAfter, denseAfter, Ready, Shows}
 pub record LowerOwnPre (p : ℕ) (registers : List ℕ) : Type 0 where
   pub high : p ≤ 24
   pub room : registerBytes p ≤ length registers
-  pub small : largest (registersOf p registers) ≤ 88 - p
-
--- Those of precision q in front, "freed register bytes are zero".
-abbrev pub ownAt : ℕ → ℕ → List ℕ → List ℕ
-ownAt p q regs = lowered (p - q) q regs ++ replicate (2 ^ p - 2 ^ q) 0
+  pub small : largest (registersOf p registers) + p < 256
 
 pub record LowerOwnPost (p other : ℕ) (before : List ℕ) (r : ℕ) (after : List ℕ) : Type 0 where
   pub smaller : r ≡ min p other
-  pub left : after ≡ withRegisters p (ownAt p (min p other) (registersOf p before)) before
+  pub left : after ≡ withRegisters p (loweredInPlace p (p - min p other) (registersOf p before)) before
 
--- ---- the state's
+-- ---- what comes in
 
--- Data of precision p for registers of precision q.
-pub record RaiseByDataPre (q p : ℕ) (row registers : List ℕ) : Type 0 where
+-- A row of precision p for registers of precision q.
+pub record RaiseByRowPre (q p : ℕ) (row registers : List ℕ) : Type 0 where
   pub order : q ≤ p
   pub high : p ≤ 24
   pub size : length row ≡ 2 ^ p
-  pub small : largest row ≤ 65 - p
+  pub small : largest row + p < 256
   pub room : registerBytes q ≤ length registers
 
 -- A list of precisions p and s.
@@ -48,35 +43,28 @@ pub record RaiseByListPre (q p s : ℕ) (vs registers : List ℕ) : Type 0 where
   pub all : allValid p s vs ≡ true
   pub room : registerBytes q ≤ length registers
 
--- Either, or neither, of a state: what its header and its list are known to be.
-pub record RaisePre (q : ℕ) (st : State) (vs registers : List ℕ) : Type 0 where
+-- Either, or neither.
+pub record RaisePre (q : ℕ) (x : Incoming) (row vs registers : List ℕ) : Type 0 where
   pub low : 4 ≤ q
-  pub order : q ≤ st .hll .precision
-  pub high : st .hll .precision ≤ 24
-  pub size : 0 < length (dataOf st) → length (dataOf st) ≡ 2 ^ st .hll .precision
-  pub small : largest (dataOf st) ≤ 65 - st .hll .precision
-  pub pair : length (dataOf st) ≡ 0 → Pair (st .hll .precision) (st .hll .sparsePrecision)
-  pub all : allValid (st .hll .precision) (st .hll .sparsePrecision) vs ≡ true
+  pub order : q ≤ x .precision
+  pub high : x .precision ≤ 24
+  pub size : 0 < length row → length row ≡ 2 ^ x .precision
+  pub small : largest row + x .precision < 256
+  pub pair : length row ≡ 0 → Pair (x .precision) (x .«sparse_precision»)
+  pub all : allValid (x .precision) (x .«sparse_precision») vs ≡ true
   pub room : registerBytes q ≤ length registers
 
--- ---- the paths. Of the lent memory that a function does not take, nothing counts but that it was there.
+-- ---- the path. Of the lent memory that the function does not take, nothing counts but that it was there.
 
-pub record StartPre (registers sparse : List ℕ) (st : State) (vs : List ℕ) : Type 0 where
-  pub a : Accumulator
-  pub pending : List ℕ
-  pub cells : ℕ
-  pub form : a .form ≡ Unstarted
-  pub ready : Ready a (mem registers sparse pending) cells st vs
+pub record DensePre (a : Accumulator) (registers : List ℕ) (x : Incoming) (row vs : List ℕ) : Type 0 where
+  pub own-low : 4 ≤ a .precision
+  pub own : LowerOwnPre (a .precision) registers
+  pub low : 4 ≤ x .precision
+  pub high : x .precision ≤ 24
+  pub size : 0 < length row → length row ≡ 2 ^ x .precision
+  pub small : largest row + x .precision < 256
+  pub pair : length row ≡ 0 → Pair (x .precision) (x .«sparse_precision»)
+  pub all : allValid (x .precision) (x .«sparse_precision») vs ≡ true
 
-pub record StartPost (registers : List ℕ) (st : State) (vs : List ℕ) (r : Accumulator) (after sparse : List ℕ) : Type 0 where
-  pub shows : (before pending : List ℕ) → Shows (startAfter (mem registers before pending) st vs) r (mem after sparse pending)
-
-pub record DensePre (a : Accumulator) (registers : List ℕ) (st : State) (vs : List ℕ) : Type 0 where
-  pub sparse : List ℕ
-  pub pending : List ℕ
-  pub cells : ℕ
-  pub form : a .form ≡ Dense
-  pub ready : Ready a (mem registers sparse pending) cells st vs
-
-pub record DensePost (a : Accumulator) (registers : List ℕ) (st : State) (vs : List ℕ) (r : Accumulator) (after : List ℕ) : Type 0 where
-  pub shows : (sparse pending : List ℕ) → Shows (denseAfter a (mem registers sparse pending) st vs) r (mem after sparse pending)
+pub record DensePost (a : Accumulator) (registers : List ℕ) (x : Incoming) (row vs : List ℕ) (r : Accumulator) (after : List ℕ) : Type 0 where
+  pub shows : (sparse pending : List ℕ) → Shows (denseAfter a (mem registers sparse pending) x row vs) r (mem after sparse pending)

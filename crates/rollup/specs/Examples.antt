@@ -18,8 +18,8 @@ use Rattle.lists.specs.Examples.{listExamples, list-examples-hold}
 use Rattle.rollup.specs.declared.accumulator.Accumulator.{Accumulator}
 use Rattle.rollup.specs.Header.{headerAnswer}
 use Rattle.rollup.specs.Accumulator.{Mem, mem, sparseFits, fits}
-use Rattle.rollup.specs.Adding.{listHead}
 use Rattle.rollup.specs.Writing.{flushed, currentSize, stateForm, belowLimit, writeOutcome}
+use Rattle.rollup.specs.Taking.{listHead}
 
 -- A dense state at (10, 15) whose registers are all r.
 abbrev allAt : ℕ → State

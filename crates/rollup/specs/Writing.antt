@@ -15,7 +15,8 @@ use Rattle.rollup.specs.declared.accumulator.Form.the-variants.{Unstarte
 use Rattle.rollup.specs.declared.accumulator.Accumulator.{Accumulator}
 use Rattle.rollup.specs.declared.writing.Written.{Written}
 use Rattle.rollup.specs.Accumulator.{Mem, keptOf, waitingOf, limit, fits}
-use Rattle.rollup.specs.Adding.{isStarted, unchanged, Shows, Free}
+use Rattle.rollup.specs.Adding.{isStarted, Shows, Free}
+use Rattle.rollup.specs.Taking.{unchanged}
 
 -- ---- what is written
 

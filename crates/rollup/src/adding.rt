@@ -2,21 +2,25 @@
 // every question is asked before anything but `scratch` is written, a refusal is document 01's number, and the accumulator goes in and
 // comes out by value beside its lent memory.
 ghost use mathlib.Core.Path.{_≡_};
-ghost use mathlib.Core.Bool.{true};
+ghost use mathlib.Core.List.{List};
+ghost use Prim.Native.Nat.{ℕ, _≤_};
 ghost use lib.ListN.{length, take};
 ghost use Rattle.wire.specs.State.{stateOf};
-ghost use Rattle.rollup.specs.Accumulator.{mem, fits as headFits};
-ghost use Rattle.rollup.specs.Adding.{acceptedAfter, Shows, AddPost};
-ghost use Rattle.rollup.specs.SparsePaths.{KnownDistinct};
-ghost use Rattle.rollup.specs.Accepting.{AcceptPre, decodedRefusal, stillDistinct, KnowingPost};
+ghost use Rattle.rollup.specs.Accumulator.{mem};
+ghost use Rattle.rollup.specs.Adding.{numbersOf, acceptedAfter, Shows, AddPost};
+ghost use Rattle.rollup.specs.Accepting.{AcceptPre, decodedRefusal, distinctAfter, Sound, AcceptPost, FittingPost};
 use crate::accumulator::Accumulator;
 use crate::accumulator::Form;
-use crate::dense_paths;
 use crate::fitting;
+use crate::header;
+use crate::incoming::Incoming;
 use crate::judging;
 use crate::judging::Judged;
-use crate::sparse_paths;
+use crate::paths;
+use crate::paths::Path;
+use crate::taking;
 use lists::decoding::Decoded;
+use wire::state;
 use wire::state::Fields;
 
 // The answer's number, 0 for accepted, and the accumulator after the call.
@@ -25,8 +29,9 @@ pub struct Added {
     pub head: Accumulator,
 }
 
-// The same, and what is known of the list that is kept then: `distinct` says that it is one that a merge can leave.
-pub struct Knowing {
+// The same of a head that fits, and what is known of the list that is kept: `distinct` says that it is one that a merge can leave. Such a list an insertion need not
+// walk first. New: the Rust inserts without looking (document 01, "Difference").
+pub struct AddedFitting {
     pub answer: u8,
     pub head: Accumulator,
     pub distinct: bool,
@@ -42,9 +47,48 @@ fn decoded_refusal(r: Decoded) -> u8
     }
 }
 
-// The path of a state that is accepted, by the roll-up's form. The first k cells of `scratch` hold the values of its list.
+// The numbers of a state with so many list bytes and values.
+fn state_numbers(f: Fields, list_bytes: usize, k: usize) -> Incoming
+    requires { ⌜ k ≤ 2147483647 ⌝ }
+    ensures { λ r. ⌜ ((s : List ℕ) → r ≡ numbersOf (stateOf s f) «list_bytes» k) ⌝ }
+{
+    let h = f.hll;
+    let mask = header::allowed_types(f.value_type);
+    Incoming {
+        mask,
+        value_type: f.value_type,
+        num_values: f.num_values,
+        precision: h.precision,
+        sparse_precision: h.sparse_precision,
+        sparse_size: h.sparse_size,
+        list_bytes,
+        growth: 5 * k,
+        most: 2048,
+    }
+}
+
+// What is known of the list after a path, by the form before. All values of a merge are distinct; where there was none, the list is as it was. Of a first list
+// nothing is known.
+fn distinct_after(before: Form, path: Path, known: bool) -> bool
+    ensures { λ r. ⌜ r ≡ distinctAfter before path known ⌝ }
+{
+    match before {
+        Form::Unstarted => false,
+        Form::Sparse => match path {
+            Path::None => known,
+            Path::Waits => known,
+            Path::Sorts => true,
+            Path::Inserts => true,
+            Path::Merges => true,
+        },
+        Form::Dense => known,
+    }
+}
+
+// A state that is accepted goes its path. The first k cells of `scratch` hold the values of its list.
 fn accept(
     a: Accumulator,
+    distinct: bool,
     f: Fields,
     bytes: &[u8],
     registers: &mut [u8],
@@ -52,66 +96,40 @@ fn accept(
     pending: &mut [u32],
     scratch: &mut [u32],
     k: usize,
-    distinct: bool,
-) -> Accumulator
-    requires { ⌜ AcceptPre a (mem (now registers) (now sparse) (now pending)) (now scratch) (stateOf (now bytes) f) k × KnownDistinct distinct (a .precision) (a .«sparse_precision») (take (a .«sparse_len») (now sparse)) ⌝ }
-    ensures { λ r. ⌜ Shows (acceptedAfter (a .form) a (mem (now (registers .entry)) (now (sparse .entry)) (now (pending .entry))) (stateOf (now (bytes .entry)) f) (take k (now (scratch .entry)))) r (mem (now (registers .exit)) (now (sparse .exit)) (now (pending .exit))) ⌝ }
+) -> AddedFitting
+    requires { ⌜ AcceptPre a distinct (mem (now registers) (now sparse) (now pending)) (now scratch) (stateOf (now bytes) f) k ⌝ }
+    ensures { λ r. ⌜ AcceptPost a (mem (now (registers .entry)) (now (sparse .entry)) (now (pending .entry))) (stateOf (now (bytes .entry)) f) (take k (now (scratch .entry))) r (mem (now (registers .exit)) (now (sparse .exit)) (now (pending .exit))) ⌝ }
 {
-    let form = a.form;
-    match form {
-        Form::Unstarted => dense_paths::start(f, bytes, registers, sparse, &scratch[..k]),
-        Form::Sparse => sparse_paths::accept_sparse(
-            a,
-            f,
-            bytes,
-            registers,
-            sparse,
-            pending,
-            scratch,
-            k,
-            distinct,
-        ),
-        Form::Dense => dense_paths::accept_dense(a, f, bytes, registers, &scratch[..k]),
+    let list = state::sparse_data(bytes, f);
+    let x = state_numbers(f, list.len(), k);
+    let path = paths::path_of(a, x, &sparse[..a.sparse_len], k, distinct);
+    let before = a.form;
+    let known = distinct_after(before, path, distinct);
+    let row = state::data(bytes, f);
+    let head = taking::take(a, x, path, registers, sparse, pending, scratch, row, k);
+    AddedFitting {
+        answer: 0,
+        head,
+        distinct: known,
     }
 }
 
-// What is known of the list after an accepted state, by the form before, how many values wait afterwards, and how many came in. Where some came in and none wait,
-// all were merged; else the list is as it was. Of the list of a first state nothing is known.
-fn still_distinct(before: Form, waiting: usize, k: usize, known: bool) -> bool
-    ensures { λ r. ⌜ r ≡ stillDistinct before waiting k known ⌝ }
-{
-    match before {
-        Form::Unstarted => false,
-        Form::Sparse => {
-            if waiting != 0 {
-                return known;
-            }
-            if k == 0 {
-                return known;
-            }
-            true
-        }
-        Form::Dense => false,
-    }
-}
-
-// Questions 2 to 20, of a head that fits, and then the path. `distinct` says that the list that is kept is known to be one that a merge can leave: where it is
-// not, an insertion walks the list first, and after that it is known. New: the Rust inserts without looking (document 01, "Difference").
-pub fn add_knowing(
+// Questions 2 to 20, of a head that fits, and then the path.
+pub fn add_fitting(
     a: Accumulator,
+    distinct: bool,
     registers: &mut [u8],
     sparse: &mut [u32],
     pending: &mut [u32],
     scratch: &mut [u32],
     bytes: &[u8],
-    distinct: bool,
-) -> Knowing
-    requires { ⌜ (headFits a (mem (now registers) (now sparse) (now pending)) ≡ true) × KnownDistinct distinct (a .precision) (a .«sparse_precision») (take (a .«sparse_len») (now sparse)) ⌝ }
-    ensures { λ r. ⌜ KnowingPost a (mem (now (registers .entry)) (now (sparse .entry)) (now (pending .entry))) (length (now (scratch .entry))) (now (bytes .entry)) r (mem (now (registers .exit)) (now (sparse .exit)) (now (pending .exit))) ⌝ }
+) -> AddedFitting
+    requires { ⌜ Sound a distinct (mem (now registers) (now sparse) (now pending)) ⌝ }
+    ensures { λ r. ⌜ FittingPost a (mem (now (registers .entry)) (now (sparse .entry)) (now (pending .entry))) (length (now (scratch .entry))) (now (bytes .entry)) r (mem (now (registers .exit)) (now (sparse .exit)) (now (pending .exit))) ⌝ }
 {
     let judged = judging::judge(a, bytes);
     let Judged::State(f) = judged else {
-        return Knowing {
+        return AddedFitting {
             answer: judging::judged_refusal(judged),
             head: a,
             distinct,
@@ -126,7 +144,7 @@ pub fn add_knowing(
         &pending[..],
         &scratch[..],
     ) {
-        return Knowing {
+        return AddedFitting {
             answer: 17,
             head: a,
             distinct,
@@ -134,14 +152,15 @@ pub fn add_knowing(
     }
     let read = judging::decode_listed(bytes, f, scratch);
     let Decoded::Done(k) = read else {
-        return Knowing {
+        return AddedFitting {
             answer: decoded_refusal(read),
             head: a,
             distinct,
         };
     };
-    let head = accept(
+    accept(
         a,
+        distinct,
         f,
         bytes,
         registers,
@@ -149,34 +168,7 @@ pub fn add_knowing(
         pending,
         scratch,
         k,
-        distinct,
-    );
-    let before = a.form;
-    Knowing {
-        answer: 0,
-        head,
-        distinct: still_distinct(before, head.pending_len, k, distinct),
-    }
-}
-
-// The same where nothing is known of the list.
-pub fn add_fitting(
-    a: Accumulator,
-    registers: &mut [u8],
-    sparse: &mut [u32],
-    pending: &mut [u32],
-    scratch: &mut [u32],
-    bytes: &[u8],
-) -> Added
-    requires { ⌜ headFits a (mem (now registers) (now sparse) (now pending)) ≡ true ⌝ }
-    ensures { λ r. ⌜ AddPost a (mem (now (registers .entry)) (now (sparse .entry)) (now (pending .entry))) (length (now (scratch .entry))) (now (bytes .entry)) r (mem (now (registers .exit)) (now (sparse .exit)) (now (pending .exit))) ⌝ }
-{
-    let r = add_knowing(a, registers, sparse, pending, scratch, bytes, false);
-    let head = r.head;
-    Added {
-        answer: r.answer,
-        head,
-    }
+    )
 }
 
 // Adds a state to a roll-up: document 01's questions in their order, and then the path.
@@ -193,5 +185,10 @@ pub fn add(
     if !fitting::fits(a, &registers[..], &sparse[..], &pending[..]) {
         return Added { answer: 1, head: a };
     }
-    add_fitting(a, registers, sparse, pending, scratch, bytes)
+    let r = add_fitting(a, false, registers, sparse, pending, scratch, bytes);
+    let head = r.head;
+    Added {
+        answer: r.answer,
+        head,
+    }
 }

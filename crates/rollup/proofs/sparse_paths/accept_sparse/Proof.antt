@@ -9,7 +9,7 @@ use Rattle.wire.specs.State.{State, stateOf}
 use Rattle.rollup.specs.Header.{dataOf, listOf}
 use Rattle.rollup.specs.declared.accumulator.Accumulator.{Accumulator}
 use Rattle.rollup.specs.Accumulator.{Mem, mem}
-use Rattle.rollup.specs.SparsePaths.{KnownDistinct}
+use Rattle.rollup.specs.Paths.{KnownDistinct}
 use Rattle.rollup.proofs.SparseLaws.{SparseKnown, known, counted-by, bytes-there, bytes-none, data-pre, list-pre, shows-data, shows-none, shows-list}
 use borrow.Author.Needs.{needs}
 use Rattle.rollup.proofs.sparse_paths.accept_sparse.Statement.{statement}

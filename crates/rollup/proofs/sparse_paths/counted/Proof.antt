@@ -2,11 +2,11 @@
 use Prim.Native.Nat.{ℕ}
 use mathlib.Core.Path.{ap, _∙_}
 use lib.Bits.{bitAnd}
-use Rattle.rollup.specs.SparsePaths.{counted}
 use Rattle.rollup.proofs.SparseLaws.{counted-head}
 use borrow.Author.Needs.{needs}
 use Rattle.rollup.proofs.sparse_paths.counted.Statement.{statement}
 use Rattle.rollup.proofs.sparse_paths.counted.Tie as tie
+use Rattle.rollup.specs.Taking.{counted}
 
 wrapping-add-u64-requires : tie.Need-wrapping-add-u64-requires
 wrapping-add-u64-requires c κs = search needs

@@ -2,11 +2,11 @@
 use Prim.Native.Nat.{ℕ, _+_}
 use mathlib.Core.Path.{_≡_, ap, _∙_}
 use native.Mathlib.Omega.{arith}
-use Rattle.rollup.specs.SparsePaths.{listed}
 use Rattle.rollup.proofs.SparseLaws.{copied}
 use borrow.Author.Needs.{needs}
 use Rattle.rollup.proofs.sparse_paths.wait.Statement.{statement}
 use Rattle.rollup.proofs.sparse_paths.wait.Tie as tie
+use Rattle.rollup.specs.Taking.{withList}
 
 copy-run-requires : tie.Need-copy-run-requires
 copy-run-requires c κs = search needs

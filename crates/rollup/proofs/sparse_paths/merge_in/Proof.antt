@@ -4,11 +4,11 @@ use mathlib.Core.Path.{sym}
 use denote.Ref.{now}
 use lib.ListN.{take}
 use lib.Seq.{length-take-le}
-use Rattle.rollup.specs.SparsePaths.{KnownDistinct}
 use Rattle.rollup.proofs.SparseLaws.{of-pair, wait-pre, waited, enc-ready, union-inside, settle-pre, merged-shows}
 use borrow.Author.Needs.{needs}
 use Rattle.rollup.proofs.sparse_paths.merge_sparse.Statement.{statement}
 use Rattle.rollup.proofs.sparse_paths.merge_sparse.Tie as tie
+use Rattle.rollup.specs.Paths.{KnownDistinct}
 
 waits-requires : tie.Need-waits-requires
 waits-requires c κs =
