@@ -112,7 +112,7 @@ pub record JudgedFacts (a : Accumulator) (st : State) : Type 0 where
   -- No data: a list, or neither.
   pub pair : length (dataOf st) ≡ 0 → Pair (st .hll .precision) (st .hll .sparsePrecision)
   -- The roll-up.
-  pub masks : isStarted (a .form) ≡ true → 0 < commonMask a st
+  pub masks : isStarted (a .form) ≡ true → 0 < commonMask a (maskOf (st .valueType))
   pub same-normal : a .form ≡ Sparse → st .hll .precision ≡ a .precision
   pub same-sparse : a .form ≡ Sparse → st .hll .sparsePrecision ≡ a .«sparse_precision»
 
@@ -186,7 +186,7 @@ judged-facts a st e =
             top = leb-true s 25 (both-true (leb p s) (leb s 25) r .1);
           };
       masks = λ (h : isStarted (a .form) ≡ true).
-          above-zero (commonMask a st) (or-second (not (isStarted (a .form))) (not (eqb (commonMask a st) 0)) (x .meet) (ap not h));
+          above-zero (commonMask a (maskOf (st .valueType))) (or-second (not (isStarted (a .form))) (not (eqb (commonMask a (maskOf (st .valueType))) 0)) (x .meet) (ap not h));
       same-normal = λ (h : a .form ≡ Sparse).
           sym (eqb-true _ _ (both-true (eqb (a .precision) p) (eqb (a .«sparse_precision») s) (same-pair (a .form) a st pairs h) .0));
       same-sparse = λ (h : a .form ≡ Sparse).
@@ -661,19 +661,19 @@ judged-no a s n post = sym (post .answer)
 
 -- ---- 17
 
-wanted-form : (f : Form) (a : Accumulator) (m : Mem) (st : State) → fitsForm f a m ≡ true → st .hll .precision ≤ 24 → wantedPrecision f a st ≤ 24
+wanted-form : (f : Form) (a : Accumulator) (m : Mem) (st : State) → fitsForm f a m ≡ true → st .hll .precision ≤ 24 → wantedPrecision f a (st .hll .precision) ≤ 24
 wanted-form Unstarted a m st e h = h
 wanted-form Sparse a m st e h = normal-high (a .precision) (both-true (normalRange (a .precision)) (sparseFits a m) e .0)
 wanted-form Dense a m st e h =
     normal-high (a .precision)
     (both-true (normalRange (a .precision)) (not (eqb (a .«sparse_precision») 0)) (both-true (normalRange (a .precision) && not (eqb (a .«sparse_precision») 0)) (denseFits a m) e .0) .0)
 
-pub wanted-high : (a : Accumulator) (m : Mem) (st : State) → RoomPre a m st → wantedPrecision (a .form) a st ≤ 24
+pub wanted-high : (a : Accumulator) (m : Mem) (st : State) → RoomPre a m st → wantedPrecision (a .form) a (st .hll .precision) ≤ 24
 unfolding fits
 wanted-high a m st x = wanted-form (a .form) a m st (x .fit) (judged-facts a st (x .judged) .high)
 
-pub form-wanted : (a : Accumulator) (st : State) (f : Form) → a .form ≡ f → wantedPrecision f a st ≡ wantedPrecision (a .form) a st
-form-wanted a st f e = sym (ap (λ (x : Form). wantedPrecision x a st) e)
+pub form-wanted : (a : Accumulator) (st : State) (f : Form) → a .form ≡ f → wantedPrecision f a (st .hll .precision) ≡ wantedPrecision (a .form) a (st .hll .precision)
+form-wanted a st f e = sym (ap (λ (x : Form). wantedPrecision x a (st .hll .precision)) e)
 
 -- A sum compared a part at a time.
 module _ (cells kept waiting new : ℕ) where
@@ -696,7 +696,7 @@ abbrev pub cellsIn : Mem → ℕ → ℕ → Bool
 cellsIn m room w = leb w (length (m .sparse)) && leb w (length (m .pending)) && leb w room
 
 module _ (a : Accumulator) (m : Mem) (room : ℕ) (st : State) where
-  module _ (p r : ℕ) (e : p ≡ wantedPrecision (a .form) a st) (f : r ≡ registerBytes p) where
+  module _ (p r : ℕ) (e : p ≡ wantedPrecision (a .form) a (st .hll .precision)) (f : r ≡ registerBytes p) where
     wanted-is : r ≡ wantedRegisters a st
     wanted-is = f ∙ ap registerBytes e
 
@@ -742,7 +742,7 @@ cells-least m room w x y e f =
 
 -- What 17 tells where its answer is yes: of the cells, for a list that is not empty.
 pub record Room (a : Accumulator) (m : Mem) (room : ℕ) (st : State) : Type 0 where
-  pub registers : registerBytes (wantedPrecision (a .form) a st) ≤ length (m .registers)
+  pub registers : registerBytes (wantedPrecision (a .form) a (st .hll .precision)) ≤ length (m .registers)
   pub sparse : 0 < length (listOf st) → a .«sparse_len» + a .«pending_len» + length (listOf st) ≤ length (m .sparse)
   pub pending : 0 < length (listOf st) → a .«sparse_len» + a .«pending_len» + length (listOf st) ≤ length (m .pending)
   pub scratch : 0 < length (listOf st) → a .«sparse_len» + a .«pending_len» + length (listOf st) ≤ room

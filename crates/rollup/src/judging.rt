@@ -148,7 +148,7 @@ pub fn judge(a: Accumulator, bytes: &[u8]) -> Judged
 
 // The precision whose registers 17 asks for.
 fn wanted_precision(a: Accumulator, f: Fields) -> u32
-    ensures { λ r. ⌜ r ≡ wantedPrecision (a .form) a (f .hll .precision) ⌝ }
+    ensures { λ r. ⌜ ((s : List ℕ) → r ≡ wantedPrecision (a .form) a (stateOf s f .hll .precision)) ⌝ }
 {
     let h = f.hll;
     let form = a.form;
