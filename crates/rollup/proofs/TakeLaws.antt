@@ -1,23 +1,32 @@
--- An accepted state can be taken in.
-use Prim.Native.Nat.{ℕ, _<_, _≤_, _*_, _-_}
-use mathlib.Core.Path.{_≡_, refl}
+-- Taking in: an accepted state can be taken in, and what each form requires of what comes in.
+use Prim.Native.Nat.{ℕ, _+_, _<_, _≤_, _*_, _-_}
+use mathlib.Core.Path.{_≡_, refl, sym, subst}
 use mathlib.Core.Bool.{true}
 use mathlib.Core.List.{List, []}
+use mathlib.Core.Logic.{⊎-elim}
 use native.Mathlib.Nat.{le-of-eq}
 use native.Mathlib.Omega.{arith}
 use lib.ListN.{length}
 use Rattle.wire.specs.Reading.{got}
 use Rattle.wire.specs.State.{State}
-use Rattle.lists.specs.Registers.{largest}
+use Rattle.wire.proofs.VarintLaws.{side}
+use Rattle.lists.specs.Registers.{registerBytes, registersOf, largest}
 use Rattle.lists.proofs.DecodingLaws.{accepted}
-use Rattle.rollup.specs.declared.accumulator.Form.the-variants.{Sparse}
+use Rattle.rollup.specs.declared.accumulator.Form.{Form}
+use Rattle.rollup.specs.declared.accumulator.Form.the-variants.{Unstarted, Sparse, Dense}
 use Rattle.rollup.specs.declared.accumulator.Accumulator.{Accumulator}
-use Rattle.rollup.specs.Accumulator.{Mem, fits}
+use Rattle.rollup.specs.declared.incoming.Incoming.{Incoming}
+use Rattle.rollup.specs.Accumulator.{Mem, mem, fits}
 use Rattle.rollup.specs.Header.{dataOf, listOf}
-use Rattle.rollup.specs.Adding.{stateNumbers, judgeState, hasRoom, listedIn}
-use Rattle.rollup.specs.SparsePaths.{ListRoom}
+use Rattle.rollup.specs.Taking.{takenAfter, sparseAfter}
+use Rattle.rollup.specs.Adding.{stateNumbers, judgeState, wantedPrecision, hasRoom, listedIn, Shows}
+use Rattle.rollup.specs.Starting.{StartPre, StartPost}
+use Rattle.rollup.specs.DensePaths.{DensePre, DensePost}
 use Rattle.rollup.specs.Accepting.{TakePre}
+use Rattle.rollup.proofs.FitLaws.{fit-dense}
 use Rattle.rollup.proofs.JudgeLaws.{judged-facts, room-facts}
+
+-- ---- a state
 
 -- Every question was answered with yes.
 pub record Ready (a : Accumulator) (m : Mem) (room : ℕ) (st : State) (vs : List ℕ) : Type 0 where
@@ -60,3 +69,44 @@ ready-takes {a} {m} {room} {st} {vs} ready =
       growth-high = omega (arith, l .fewer, ready .short);
       most = le-of-eq refl;
     }
+
+-- ---- by the form
+
+module _ {a : Accumulator} {m : Mem} {room : ℕ} {x : Incoming} {row vs : List ℕ} (pre : TakePre a m room x row vs) where
+  pub start-pre : a .form ≡ Unstarted → StartPre (m .registers) (m .sparse) x row vs
+  start-pre f =
+      record {
+        high = pre .high;
+        size = pre .size;
+        in-registers = subst (λ (g : Form). registerBytes (wantedPrecision g a (x .precision)) ≤ length (m .registers)) f (pre .in-registers);
+        in-sparse = ⊎-elim (λ (h : 0 < length vs). omega (arith, pre .in-lists h .in-sparse)) (λ (h : length vs ≤ 0). omega arith) (side 0 (length vs));
+      }
+
+  pub dense-pre : a .form ≡ Dense → DensePre a (m .registers) x row vs
+  dense-pre f =
+      let d = fit-dense a m (pre .fit) f in
+      record {
+        own-low = d .low;
+        own = record { high = d .high; room = d .room; small = omega (arith, d .small, d .high) };
+        low = pre .low;
+        high = pre .high;
+        size = pre .size;
+        small = omega (arith, pre .small, pre .high);
+        pair = pre .pair;
+        all = pre .all;
+      }
+
+module _ (a : Accumulator) (registers sparse pending : List ℕ) (x : Incoming) (row vs : List ℕ) where
+  abbrev Taken : Accumulator → Mem → Type 0
+  Taken r n = Shows (takenAfter (a .form) a (mem registers sparse pending) x row vs) r n
+
+  pub taken-start : (r : Accumulator) (after left : List ℕ) → a .form ≡ Unstarted → StartPost registers x row vs r after left → Taken r (mem after left pending)
+  taken-start r after left e post =
+      subst (λ (f : Form). Shows (takenAfter f a (mem registers sparse pending) x row vs) r (mem after left pending)) (sym e) (post .shows sparse pending)
+
+  pub taken-sparse : (r : Accumulator) (n : Mem) → a .form ≡ Sparse → Shows (sparseAfter a (mem registers sparse pending) x row vs) r n → Taken r n
+  taken-sparse r n e shows = subst (λ (f : Form). Shows (takenAfter f a (mem registers sparse pending) x row vs) r n) (sym e) shows
+
+  pub taken-dense : (r : Accumulator) (after : List ℕ) → a .form ≡ Dense → DensePost a registers x row vs r after → Taken r (mem after sparse pending)
+  taken-dense r after e post =
+      subst (λ (f : Form). Shows (takenAfter f a (mem registers sparse pending) x row vs) r (mem after sparse pending)) (sym e) (post .shows sparse pending)

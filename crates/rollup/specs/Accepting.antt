@@ -52,7 +52,7 @@ pub record TakePre (a : Accumulator) (m : Mem) (room : ℕ) (x : Incoming) (row 
 -- The first k cells of `scratch` are the values, and the path is theirs.
 pub record TakingPre (a : Accumulator) (m : Mem) (scratch : List ℕ) (x : Incoming) (path : Path) (row : List ℕ) (k : ℕ) : Type 0 where
   pub inside : k ≤ length scratch
-  pub take : TakePre a m (length scratch) x row (take k scratch)
+  pub taken : TakePre a m (length scratch) x row (take k scratch)
   pub its : path ≡ pathOf (a .form) a (keptOf a m) x k
 
 -- ---- what is known of a roll-up between two calls
@@ -77,7 +77,7 @@ distinctAfter Dense path known = known
 -- Every question is answered with yes, and the first k cells of `scratch` are the values of the list.
 pub record AcceptPre (a : Accumulator) (distinct : Bool) (m : Mem) (scratch : List ℕ) (st : State) (k : ℕ) : Type 0 where
   pub inside : k ≤ length scratch
-  pub take : TakePre a m (length scratch) (stateNumbers st (take k scratch)) (dataOf st) (take k scratch)
+  pub taken : TakePre a m (length scratch) (stateNumbers st (take k scratch)) (dataOf st) (take k scratch)
   pub known : KnownDistinct distinct (a .precision) (a .«sparse_precision») (keptOf a m)
 
 -- Document 01's number of a refusal.
