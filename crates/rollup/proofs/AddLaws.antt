@@ -26,9 +26,9 @@ use Rattle.rollup.specs.Adding.{Outcome, refuse, accept, numbersOf, stat
 use Rattle.rollup.specs.Judging.{judgedRefusal, JudgePost, RoomPre, ListedPre}
 use Rattle.rollup.specs.Paths.{KnownDistinct, PathPre}
 use Rattle.rollup.specs.Accepting.{TakePre, TakingPre, distinctAfter, AcceptPre, decodedRefusal, AcceptPost, FittingPost}
-use Rattle.rollup.proofs.FitLaws.{fit-sparse, fit-kept}
+use Rattle.rollup.proofs.FitLaws.{fit-sparse}
 use Rattle.rollup.proofs.JudgeLaws.{judged-state, judged-short, judged-no, listed-pre}
-use Rattle.rollup.proofs.TakeLaws.{Ready, ready-takes}
+use Rattle.rollup.proofs.TakeLaws.{fit-kept, Ready, ready-takes}
 use Rattle.rollup.proofs.KeepsLaws.{taken-keeps}
 use Rattle.rollup.proofs.DistinctLaws.{distinct-after}
 

@@ -23,8 +23,19 @@ use Rattle.rollup.specs.Adding.{stateNumbers, judgeState, wantedPrecisio
 use Rattle.rollup.specs.Starting.{StartPre, StartPost}
 use Rattle.rollup.specs.DensePaths.{DensePre, DensePost}
 use Rattle.rollup.specs.Accepting.{TakePre}
-use Rattle.rollup.proofs.FitLaws.{fit-dense}
+use Rattle.rollup.proofs.FitLaws.{fit-none, fit-sparse, fit-dense}
 use Rattle.rollup.proofs.JudgeLaws.{judged-facts, room-facts}
+
+-- ---- a head that fits
+
+-- The values that are kept are there, whatever the form.
+pub fit-kept : (a : Accumulator) (m : Mem) → fits a m ≡ true → a .«sparse_len» ≤ length (m .sparse)
+fit-kept a m e = by-form (a .form) refl
+  where
+    by-form : (f : Form) → a .form ≡ f → a .«sparse_len» ≤ length (m .sparse)
+    by-form Unstarted f = omega (arith, fit-none a m e f .no-kept)
+    by-form Sparse f = fit-sparse a m e f .kept-in
+    by-form Dense f = omega (arith, fit-dense a m e f .none .no-kept)
 
 -- ---- a state
 
