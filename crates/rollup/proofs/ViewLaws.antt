@@ -17,14 +17,15 @@ use Rattle.lists.proofs.DecodingLaws.{accepted, decode-number}
 use Rattle.rollup.specs.declared.accumulator.Accumulator.{Accumulator}
 use Rattle.rollup.specs.declared.adding.Added.{Added}
 use Rattle.rollup.specs.Accumulator.{Mem, fits, fresh}
-use Rattle.rollup.specs.Header.{listOf, headerAnswer}
-use Rattle.rollup.specs.Adding.{Outcome, refuse, accept, acceptedAfter, masksMeet, carried, judgeState, judge, hasRoom, listedIn, addOutcome, Ready, Shows, AddPost}
+use Rattle.rollup.specs.Header.{dataOf, listOf, headerAnswer}
+use Rattle.rollup.specs.Adding.{Outcome, refuse, accept, acceptedAfter, masksMeet, carried, judgeState, judge, hasRoom, listedIn, addOutcome, stateNumbers, Shows, AddPost}
 use Rattle.rollup.specs.Calls.{Call, Steps, begun, adding, writing, moving, Run, valueOr, stateIn, valuesIn}
 use Rattle.rollup.specs.Taking.{unchanged}
 use Rattle.rollup.proofs.FitLaws.{fit-none-back}
 use Rattle.rollup.proofs.JudgeLaws.{judged-same}
 use Rattle.rollup.proofs.AddLaws.{add-judged, add-full, add-listed, add-accepted}
-use Rattle.rollup.proofs.KeepsLaws.{accepted-keeps, refused-keeps, write-keeps}
+use Rattle.rollup.proofs.TakeLaws.{Ready, ready-takes}
+use Rattle.rollup.proofs.KeepsLaws.{taken-keeps, refused-keeps, write-keeps}
 
 -- ---- questions 2 to 16
 
@@ -145,7 +146,9 @@ module _ (a : Accumulator) (m : Mem) (room : ℕ) (bytes : List ℕ) (r : Added)
   pub add-keeps : fits (r .head) n ≡ true
   add-keeps =
       ⊎-elim (λ (x : IsRefused a m r n). refused-keeps a m fit 0 (r .head) n (x .same))
-      (λ (x : IsAccepted a m room bytes r n). accepted-keeps a m room (stateIn bytes) (valuesIn (stateIn bytes)) (x .ready) (r .head) n (x .shows)) add-view
+      (λ (x : IsAccepted a m room bytes r n).
+      let st = stateIn bytes in
+      taken-keeps a m room (stateNumbers st (valuesIn st)) (dataOf st) (valuesIn st) (ready-takes (x .ready)) (r .head) n (x .shows)) add-view
 
 -- ---- lists of calls
 
