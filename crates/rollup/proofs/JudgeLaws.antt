@@ -32,11 +32,11 @@ use Rattle.rollup.specs.declared.accumulator.Form.the-variants.{Unstarte
 use Rattle.rollup.specs.declared.accumulator.Accumulator.{Accumulator}
 use Rattle.rollup.specs.declared.judging.Judged.{Judged}
 use Rattle.rollup.specs.declared.judging.Judged.the-variants.{State as JudgedState, Refused}
-use Rattle.rollup.specs.Accumulator.{Mem, normalRange, sparseRange, sparseFits, denseFits, fitsForm, fits}
+use Rattle.rollup.specs.Accumulator.{Mem, normalRange, sparseRange}
 use Rattle.rollup.specs.Header.{ask, dataOf, listOf, isEmpty, isValueType, maskOf, headerAnswer}
 use Rattle.rollup.specs.Adding.{commonMask, isStarted, masksMeet, hasField, samePair, carried, judgeState, judge, wantedPrecision, wantedRegisters, wantedCells, hasRoom, listedIn}
 use Rattle.rollup.specs.Judging.{kindAsked, needsPair, structureAsked, judgedMeans, JudgedInside, JudgePost, parsedRefusal, RoomPre, ListedPre}
-use Rattle.rollup.proofs.FitLaws.{both-yes, both-no, above-zero}
+use Rattle.rollup.proofs.FitLaws.{both-yes, both-no, above-zero, fit-sparse, fit-dense}
 
 -- ---- Bools
 
@@ -660,16 +660,13 @@ judged-no a s n post = sym (post .answer)
 
 -- ---- 17
 
-wanted-form : (f : Form) (a : Accumulator) (m : Mem) (st : State) → fitsForm f a m ≡ true → st .hll .precision ≤ 24 → wantedPrecision f a st ≤ 24
-wanted-form Unstarted a m st e h = h
-wanted-form Sparse a m st e h = normal-high (a .precision) (both-true (normalRange (a .precision)) (sparseFits a m) e .0)
-wanted-form Dense a m st e h =
-    normal-high (a .precision)
-    (both-true (normalRange (a .precision)) (not (eqb (a .«sparse_precision») 0)) (both-true (normalRange (a .precision) && not (eqb (a .«sparse_precision») 0)) (denseFits a m) e .0) .0)
-
 pub wanted-high : (a : Accumulator) (m : Mem) (st : State) → RoomPre a m st → wantedPrecision (a .form) a st ≤ 24
-unfolding fits
-wanted-high a m st x = wanted-form (a .form) a m st (x .fit) (judged-facts a st (x .judged) .high)
+wanted-high a m st x = by-form (a .form) refl
+  where
+    by-form : (f : Form) → a .form ≡ f → wantedPrecision f a st ≤ 24
+    by-form Unstarted e = judged-facts a st (x .judged) .high
+    by-form Sparse e = fit-sparse a m (x .fit) e .pair .high
+    by-form Dense e = fit-dense a m (x .fit) e .high
 
 pub form-wanted : (a : Accumulator) (st : State) (f : Form) → a .form ≡ f → wantedPrecision f a st ≡ wantedPrecision (a .form) a st
 form-wanted a st f e = sym (ap (λ (x : Form). wantedPrecision x a st) e)

@@ -10,7 +10,6 @@ use lib.Bits.{bitAnd}
 use lib.Dec.{leb, eqb}
 use lib.ListN.{length, take, length-replicate, length-append}
 use lib.Seq.{length-take-le, take-at}
-use lib.Pow.{pow-mono}
 use Rattle.wire.proofs.BoolLaws.{both-true}
 use Rattle.wire.proofs.VarintLaws.{side}
 use borrow.Author.Tests.{lt-ltb, le-ltb, le-leb, lt-leb, eq-eqb, ne-eqb, eqb-true, leb-true, not-false}
@@ -22,9 +21,8 @@ use Rattle.lists.specs.Lists.{allValid, written, merged, distinctSlots, MergePo
 use Rattle.lists.specs.Merging.{MergePre}
 use Rattle.lists.specs.Registers.{registerBytes, registersOf, withRegisters, zeros, raisedBy, larger}
 use Rattle.lists.proofs.OrderLaws.{ascends-sort, length-sort, perm-sort}
-use Rattle.lists.proofs.MergeLaws.{valid-append, valid-sort, merged-perm, merged-valid, length-merged, length-encode}
-use Rattle.lists.specs.Lists.{encodeList}
-use Rattle.lists.proofs.DecodingLaws.{Accepted, accepted, decode-encode}
+use Rattle.lists.proofs.MergeLaws.{valid-append, valid-sort, merged-perm, merged-valid, length-merged}
+use Rattle.lists.proofs.DecodingLaws.{Accepted, accepted}
 use Rattle.lists.proofs.RegisterLaws.{of-with, with-room, with-with, row-registers}
 use Rattle.lists.proofs.RankLaws.{raised-append, zeros-raised}
 use Rattle.rollup.specs.declared.accumulator.Form.{Form}
@@ -34,7 +32,7 @@ use Rattle.rollup.specs.Accumulator.{Mem, mem, keptOf, waitingOf, limit}
 use Rattle.wire.specs.State.{State}
 use Rattle.rollup.specs.Header.{dataOf, listOf, isEmpty, maskOf}
 use Rattle.rollup.specs.Adding.{After, waits, inserts, settle, listAfter, sparseAfter, commonMask, sumCount, wantedPrecision, wantedRegisters, wantedCells, hasRoom, Ready, Shows}
-use Rattle.rollup.proofs.FitLaws.{FitSparse, fit-sparse}
+use Rattle.rollup.proofs.FitLaws.{FitSparse, fit-sparse, counts-short}
 use Rattle.rollup.proofs.JudgeLaws.{judged-facts}
 use Rattle.rollup.specs.SparsePaths.{counted, listed, densed, asList, asDense, settled, SettlePre, Leaves, WaitPre, ListReady, ListRoom, insertsNow, unionBytes, UnionPost, BackPre, JoinPre, asWaiting, mergedAfter, MergeSparsePre, DensifyPre}
 
@@ -655,21 +653,6 @@ bytes-there l t e it z = true≢false (sym it ∙ e ∙ ap not (eq-eqb (length l
 
 pub bytes-none : (l : List ℕ) (t : Bool) → t ≡ not (isEmpty l) → t ≡ false → length l ≡ 0
 bytes-none l t e it = eqb-true (length l) 0 (not-false (isEmpty l) (sym e ∙ it))
-
--- A value is written in a byte or more.
-length-written : (p s : ℕ) (l : List ℕ) → Pair p s → ascends l ≡ true → allValid p s l ≡ true → length l ≤ written l
-length-written p s l pair o v = omega (arith, accepted p s (encodeList l) (decode-encode pair l o v) .fewer, length-encode l)
-
--- As each value that is kept takes a byte, and few wait, the counts are small.
-pub counts-short : {a : Accumulator} {m : Mem} → FitSparse a m → a .«sparse_len» + a .«pending_len» ≤ 2147483647
-counts-short {a} {m} x =
-    let top : 2 ^ (a .precision - 2) ≤ 2 ^ 22 = pow-mono (let h : a .precision - 2 ≤ 22 = omega (arith, x .pair .high) in h) in
-    let kept = length-written (a .precision) (a .«sparse_precision») (keptOf a m) (x .pair) (x .order) (x .kept-valid) in
-    let len = length-take-le (a .«sparse_len») (m .sparse) (x .kept-in) in
-    ⊎-elim
-    (λ (w : 0 < a .«pending_len»). omega (arith, top, kept, len, x .bytes-low, x .wait w))
-    (λ (w : a .«pending_len» ≤ 0). omega (arith, kept, len, x .bytes-low, x .bytes-high))
-    (side 0 (a .«pending_len»))
 
 module _ {a : Accumulator} {m : Mem} {room : ℕ} {st : State} {vs : List ℕ} (x : SparseKnown a m room st vs) where
   pub data-pre : (length (dataOf st) ≡ 0 → ⊥) → (h : Accumulator) (row : List ℕ) → h ≡ countedBy a m st → row ≡ dataOf st

@@ -23,8 +23,7 @@ use Rattle.rollup.specs.Accumulator.{Mem, keptOf, waitingOf, limit, fits
 use Rattle.rollup.specs.Header.{dataOf, listOf, isEmpty}
 use Rattle.rollup.specs.Adding.{After, signedMin, signedKey, waits, startAfter, settle, listAfter, sparseAfter, denseAfter, acceptedAfter, Ready}
 use Rattle.rollup.specs.Calls.{Call, Steps, begun, adding, writing, moving, Run, valueOr, stateIn, valuesIn}
-use Rattle.rollup.proofs.FitLaws.{FitSparse, fit-sparse}
-use Rattle.rollup.proofs.SparseLaws.{counts-short}
+use Rattle.rollup.proofs.FitLaws.{FitSparse, fit-sparse, counts-short}
 use Rattle.rollup.proofs.WaysLaws.{start-ways, settle-ways, list-ways, sparse-ways}
 use Rattle.rollup.proofs.ViewLaws.{IsRefused, IsAccepted, add-view, fresh-fits, steps-fit}
 

@@ -17,7 +17,7 @@ use Rattle.lists.specs.Registers.{largest}
 use Rattle.lists.specs.Examples.{listExamples, list-examples-hold}
 use Rattle.rollup.specs.declared.accumulator.Accumulator.{Accumulator}
 use Rattle.rollup.specs.Header.{headerAnswer}
-use Rattle.rollup.specs.Accumulator.{Mem, mem, sparseFits, fits}
+use Rattle.rollup.specs.Accumulator.{Mem, mem, countsFit, listsFit, fits}
 use Rattle.rollup.specs.Adding.{listHead}
 use Rattle.rollup.specs.Writing.{flushed, currentSize, stateForm, belowLimit, writeOutcome}
 
@@ -74,7 +74,7 @@ writeExamples =
     ∷ []
 
 pub write-examples-hold : allHold writeExamples ≡ true
-unfolding writeOutcome fits sparseFits flushed currentSize stateForm belowLimit allValid valid mark marked ascends written writtenFrom encodeList encodeFrom encodeStep encodeOf outerNumbers hllBytes hllNumbers bytesField lengthPrefix int32Unless numberField varintBytes
+unfolding writeOutcome fits countsFit listsFit flushed currentSize stateForm belowLimit allValid valid mark marked ascends written writtenFrom encodeList encodeFrom encodeStep encodeOf outerNumbers hllBytes hllNumbers bytesField lengthPrefix int32Unless numberField varintBytes
 write-examples-hold = refl
 
 -- ---- all of them
