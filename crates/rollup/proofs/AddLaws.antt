@@ -19,7 +19,7 @@ use Rattle.rollup.specs.declared.judging.Judged.the-variants.{State as J
 use Rattle.rollup.specs.declared.accumulator.Accumulator.{Accumulator}
 use Rattle.rollup.specs.Accumulator.{Mem, mem, fits}
 use Rattle.rollup.specs.Header.{listOf}
-use Rattle.rollup.specs.Adding.{After, Outcome, refuse, accept, acceptedAfter, judge, hasRoom, listedIn, question, opened, addOutcome, judgeState, sparseAfter, Shows, Free, AddPost}
+use Rattle.rollup.specs.Adding.{After, Outcome, refuse, accept, acceptedAfter, judge, hasRoom, listedIn, question, opened, addOutcome, judgeAnswer, sparseAfter, Shows, Free, AddPost}
 use Rattle.rollup.specs.Judging.{judgedRefusal, JudgePost, RoomPre, ListedPre}
 use Rattle.rollup.specs.DensePaths.{StartPost, DensePost}
 use Rattle.rollup.specs.Accepting.{AcceptPre, decodedRefusal}
@@ -152,11 +152,11 @@ module _ (a : Accumulator) (m : Mem) (room : ℕ) (bytes : List ℕ) (fit : fits
     is-state : JudgePost a bytes (JudgedState f)
     is-state = subst (JudgePost a bytes) e post
 
-    state-judged : judgeState a (stateOf bytes f) ≡ got (stateOf bytes f) []
+    state-judged : judgeAnswer a (stateOf bytes f) ≡ 0
     state-judged = judged-state a bytes f is-state
 
     pub room-pre : RoomPre a m (stateOf bytes f)
-    room-pre = record { fit = fit; judged = state-judged }
+    room-pre = record { fit = fit; judged = state-judged; short = judged-short a bytes f is-state }
 
     pub room-stop : hasRoom a m room (stateOf bytes f) ≡ false → AddPost a m room bytes (record { answer = 17; head = a }) m
     room-stop h = refused-post a m room bytes 17 (add-full a m room bytes (stateOf bytes f) [] fit (sym (is-state .answer)) h)

@@ -605,24 +605,24 @@ pub record SparseKnown (a : Accumulator) (m : Mem) (room : ℕ) (st : State) (vs
 -- The parts of question 17.
 record Spaces (a : Accumulator) (m : Mem) (room : ℕ) (st : State) : Type 0 where
   registers-fit : wantedRegisters a st ≤ length (m .registers)
-  sparse-fit : wantedCells a st ≤ length (m .sparse)
-  pending-fit : wantedCells a st ≤ length (m .pending)
-  scratch-fit : wantedCells a st ≤ room
+  sparse-fit : wantedCells a (length (listOf st)) ≤ length (m .sparse)
+  pending-fit : wantedCells a (length (listOf st)) ≤ length (m .pending)
+  scratch-fit : wantedCells a (length (listOf st)) ≤ room
 
 spaces : (a : Accumulator) (m : Mem) (room : ℕ) (st : State) → hasRoom a m room st ≡ true → Spaces a m room st
 unfolding hasRoom
 spaces a m room st e =
     let r = leb (wantedRegisters a st) (length (m .registers)) in
-    let s = leb (wantedCells a st) (length (m .sparse)) in
-    let p = leb (wantedCells a st) (length (m .pending)) in
-    let w = leb (wantedCells a st) room in
+    let s = leb (wantedCells a (length (listOf st))) (length (m .sparse)) in
+    let p = leb (wantedCells a (length (listOf st))) (length (m .pending)) in
+    let w = leb (wantedCells a (length (listOf st))) room in
     let e3 = both-true (r && s && p) w e .0 in
     let e2 = both-true (r && s) p e3 .0 in
     record {
       registers-fit = leb-true (wantedRegisters a st) (length (m .registers)) (both-true r s e2 .0);
-      sparse-fit = leb-true (wantedCells a st) (length (m .sparse)) (both-true r s e2 .1);
-      pending-fit = leb-true (wantedCells a st) (length (m .pending)) (both-true (r && s) p e3 .1);
-      scratch-fit = leb-true (wantedCells a st) room (both-true (r && s && p) w e .1);
+      sparse-fit = leb-true (wantedCells a (length (listOf st))) (length (m .sparse)) (both-true r s e2 .1);
+      pending-fit = leb-true (wantedCells a (length (listOf st))) (length (m .pending)) (both-true (r && s) p e3 .1);
+      scratch-fit = leb-true (wantedCells a (length (listOf st))) room (both-true (r && s && p) w e .1);
     }
 
 pub known : (a : Accumulator) (m : Mem) (room : ℕ) (st : State) (vs : List ℕ) → a .form ≡ Sparse → Ready a m room st vs → SparseKnown a m room st vs
@@ -637,7 +637,7 @@ known a m room st vs f x =
       in-registers = subst (λ (n : ℕ). n ≤ length (m .registers)) bytes (r .registers-fit);
       size = λ (n : length (dataOf st) ≡ 0 → ⊥). j .size (pos-of-ne-zero n) ∙ ap (λ (q : ℕ). 2 ^ q) p;
       in-lists = λ (n : length (listOf st) ≡ 0 → ⊥).
-          let cells : wantedCells a st ≡ a .«sparse_len» + a .«pending_len» + length (listOf st) =
+          let cells : wantedCells a (length (listOf st)) ≡ a .«sparse_len» + a .«pending_len» + length (listOf st) =
           ap (λ (b : Bool). cond b 0 (a .«sparse_len» + a .«pending_len» + length (listOf st))) (ne-eqb (length (listOf st)) 0 n) in
           record { in-sparse = omega (arith, cells, r .sparse-fit); in-pending = omega (arith, cells, r .pending-fit); in-scratch = omega (arith, cells, r .scratch-fit) };
       taken =

@@ -8,7 +8,7 @@ use lib.Dec.{ltb, leb, eqb}
 use lib.Bits.{bitAnd}
 use lib.ListN.{length, replicate}
 use Rattle.wire.specs.Reading.{Read, got, refused, andThen}
-use Rattle.wire.specs.State.{State, readState}
+use Rattle.wire.specs.State.{State}
 use Rattle.lists.specs.Lists.{decodeOf, merged, written, distinctSlots}
 use Rattle.lists.specs.Registers.{registerBytes, registersOf, withRegisters, zeros, raisedBy, raisedLower, larger, lowered}
 use Rattle.rollup.specs.declared.accumulator.Form.{Form}
@@ -16,7 +16,7 @@ use Rattle.rollup.specs.declared.accumulator.Form.the-variants.{Unstarte
 use Rattle.rollup.specs.declared.accumulator.Accumulator.{Accumulator}
 use Rattle.rollup.specs.declared.adding.Added.{Added}
 use Rattle.rollup.specs.Accumulator.{Mem, keptOf, waitingOf, limit, fits}
-use Rattle.rollup.specs.Header.{dataOf, listOf, isEmpty, maskOf, headerAnswer}
+use Rattle.rollup.specs.Header.{ask, first, dataOf, listOf, isEmpty, maskOf, headerAnswer, passing, readHeader}
 
 -- What a call is to leave: the head, the register bytes, the values kept, and those waiting, in some order.
 pub record After : Type 0 where
@@ -240,14 +240,17 @@ carried a st =
     && not (not (isEmpty (dataOf st)) && hasField (st .hll .sparseData))
     && samePair (a .form) a st
 
--- Questions 7 to 16, of a state that was read.
-unfoldable pub judgeState : Accumulator → State → Read State
-judgeState a st =
-    cond (eqb (headerAnswer st) 0) (cond (masksMeet a st) (cond (carried a st) (got st []) (refused 16)) (refused 15)) (refused (headerAnswer st))
+-- Questions 15 and 16, of a state that passed those before: whether it matches the roll-up. 0 where both are yes.
+unfoldable pub matchAnswer : Accumulator → State → ℕ
+matchAnswer a st = ask (masksMeet a st) 15 (ask (carried a st) 16 0)
 
--- Questions 2 to 16. "2: Has the state at most 2,147,483,647 bytes?"
+-- Questions 2 to 16.
 unfoldable pub judge : Accumulator → List ℕ → Read State
-judge a bytes = cond (leb (length bytes) 2147483647) (andThen (readState bytes) (λ st nothing. judgeState a st)) (refused 2)
+judge a bytes = andThen (readHeader bytes) (λ st nothing. passing (matchAnswer a st) st)
+
+-- Questions 7 to 16, of a state that was read.
+abbrev pub judgeAnswer : Accumulator → State → ℕ
+judgeAnswer a st = first (headerAnswer st) (matchAnswer a st)
 
 -- "17: Has register memory 2^p bytes (the roll-up's p, the state's if unstarted), and, where the sparse field is not empty, each u32 list kept +
 -- waiting + that field's byte length?"
@@ -259,15 +262,17 @@ wantedPrecision Dense a st = a .precision
 abbrev pub wantedRegisters : Accumulator → State → ℕ
 wantedRegisters a st = registerBytes (wantedPrecision (a .form) a st)
 
-abbrev pub wantedCells : Accumulator → State → ℕ
-wantedCells a st = cond (isEmpty (listOf st)) 0 (a .«sparse_len» + a .«pending_len» + length (listOf st))
+-- For a sparse field of n bytes.
+abbrev pub wantedCells : Accumulator → ℕ → ℕ
+wantedCells a n = cond (eqb n 0) 0 (a .«sparse_len» + a .«pending_len» + n)
 
 unfoldable pub hasRoom : Accumulator → Mem → ℕ → State → Bool
 hasRoom a m room st =
+    let cells = wantedCells a (length (listOf st)) in
     leb (wantedRegisters a st) (length (m .registers))
-    && leb (wantedCells a st) (length (m .sparse))
-    && leb (wantedCells a st) (length (m .pending))
-    && leb (wantedCells a st) room
+    && leb cells (length (m .sparse))
+    && leb cells (length (m .pending))
+    && leb cells room
 
 -- 18 to 20: the list of a state.
 abbrev pub listedIn : State → Read (List ℕ)
@@ -292,7 +297,7 @@ addOutcome a m room bytes =
 -- What is known where a path begins.
 pub record Ready (a : Accumulator) (m : Mem) (room : ℕ) (st : State) (vs : List ℕ) : Type 0 where
   pub fit : fits a m ≡ true
-  pub judged : judgeState a st ≡ got st []
+  pub judged : judgeAnswer a st ≡ 0
   pub space : hasRoom a m room st ≡ true
   pub listed : listedIn st ≡ got vs []
   pub short : length (listOf st) ≤ 2147483647

@@ -16,7 +16,7 @@ use Rattle.lists.specs.Lists.{allValid, encodeFrom, encodeList, writtenFrom, wr
 use Rattle.lists.specs.Registers.{largest}
 use Rattle.lists.specs.Examples.{listExamples, list-examples-hold}
 use Rattle.rollup.specs.declared.accumulator.Accumulator.{Accumulator}
-use Rattle.rollup.specs.Header.{headerAnswer}
+use Rattle.rollup.specs.Header.{kindAnswer, structureAnswer, headerAnswer}
 use Rattle.rollup.specs.Accumulator.{Mem, mem, countsFit, listsFit, fits}
 use Rattle.rollup.specs.Adding.{listHead}
 use Rattle.rollup.specs.Writing.{flushed, currentSize, stateForm, belowLimit, writeOutcome}
@@ -37,7 +37,7 @@ abbrev pub headerExamples : List Example
 headerExamples = record { number = 10; holds = eqb (headerAnswer (allAt 55)) 0 && eqb (headerAnswer (allAt 56)) 14 } ∷ []
 
 pub header-examples-hold : allHold headerExamples ≡ true
-unfolding headerAnswer largest
+unfolding headerAnswer structureAnswer kindAnswer largest
 header-examples-hold = refl
 
 -- A list roll-up at (4, 10) that keeps n values, 1, 2, 3 and so on, each of which takes a byte, and its memory.
