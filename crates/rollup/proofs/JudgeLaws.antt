@@ -508,7 +508,7 @@ judged-facts a st e =
 
 -- A list that is not empty: no data beside it, and a pair.
 module _ (a : Accumulator) (st : State) (x : JudgedFacts a st) (h : 0 < length (listOf st)) where
-  pub list-alone : length (dataOf st) ≡ 0
+  list-alone : length (dataOf st) ≡ 0
   list-alone = go (length (dataOf st)) refl
     where
       go : (n : ℕ) → length (dataOf st) ≡ n → length (dataOf st) ≡ 0
@@ -517,7 +517,7 @@ module _ (a : Accumulator) (st : State) (x : JudgedFacts a st) (h : 0 < length (
           let f : length (listOf st) ≡ 0 = ap (λ (o : Option (List ℕ)). length (bytesOrNone o)) (x .alone (omega arith)) in
           absurd (let z : ⊥ = omega arith in z)
 
-  pub list-pair : Pair (st .hll .precision) (st .hll .sparsePrecision)
+  list-pair : Pair (st .hll .precision) (st .hll .sparsePrecision)
   list-pair = x .pair list-alone
 
 -- ---- 17

@@ -15,7 +15,7 @@ use Rattle.wire.proofs.VarintLaws.{side}
 use borrow.Author.Tests.{lt-ltb, le-ltb, le-leb, lt-leb, eq-eqb, ne-eqb, eqb-true, leb-true, not-false}
 use Rattle.lists.specs.declared.values.Sparse.{Sparse as Encoding}
 use Rattle.lists.specs.declared.merging.Merged.{Merged}
-use Rattle.lists.specs.Values.{Pair, SparseFits, NewPost}
+use Rattle.lists.specs.Values.{SparseFits, NewPost}
 use Rattle.lists.specs.Sorting.{ascends, sortOf}
 use Rattle.lists.specs.Lists.{allValid, written, merged, distinctSlots, MergePost, InsertPre, InsertPost}
 use Rattle.lists.specs.Merging.{MergePre}
