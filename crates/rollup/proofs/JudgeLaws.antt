@@ -33,7 +33,7 @@ use Rattle.rollup.specs.declared.judging.Judged.{Judged}
 use Rattle.rollup.specs.declared.judging.Judged.the-variants.{State as JudgedState, Refused}
 use Rattle.rollup.specs.Accumulator.{Mem, normalRange, sparseRange}
 use Rattle.rollup.specs.Header.{ask, first, dataOf, listOf, isEmpty, isValueType, maskOf, stateType, stateVersion, kindAnswer, listHasPrecision, dataHasLength, needsPair, pairInRange, structureAnswer, topRank, registersInRange, headerAnswer, passing, readHeader}
-use Rattle.rollup.specs.Adding.{commonMask, isStarted, masksMeet, hasField, samePair, carried, matchAnswer, judge, judgeAnswer, wantedPrecision, wantedRegisters, wantedCells, hasRoom, listedIn}
+use Rattle.rollup.specs.Adding.{commonMask, isStarted, masksMeet, hasField, hasBoth, samePair, carried, matchAnswer, judge, judgeAnswer, wantedPrecision, wantedRegisters, wantedCells, hasRoom, listedIn}
 use Rattle.rollup.specs.Judging.{judgedMeans, JudgedInside, HeaderPost, JudgePost, parsedRefusal, RoomPre, ListedPre}
 use Rattle.rollup.proofs.FitLaws.{both-yes, both-no, above-zero, range-of, ranges-pair, fit-sparse, fit-dense, fit-short}
 
@@ -479,12 +479,11 @@ pub judged-facts : (a : Accumulator) (st : State) → judgeAnswer a st ≡ 0 →
 judged-facts a st e =
     let p = st .hll .precision in
     let s = st .hll .sparsePrecision in
-    let alone = not (not (isEmpty (dataOf st)) && hasField (st .hll .sparseData)) in
     let whole = first-zero (headerAnswer st) (matchAnswer a st) e in
     let y = header-facts st (whole .0) in
     let x = match-facts a st (whole .1) in
-    let pairs = both-true (not (eqb s 0) && alone) (samePair (a .form) a st) (x .1) in
-    let z = both-true (not (eqb s 0)) alone (pairs .0) in
+    let pairs = both-true (not (eqb s 0) && not (hasBoth st)) (samePair (a .form) a st) (x .1) in
+    let z = both-true (not (eqb s 0)) (not (hasBoth st)) (pairs .0) in
     let range = range-of p (y .0 .normal) in
     record {
       kind = y .0 .kind;

@@ -233,12 +233,12 @@ samePair Unstarted a st = true
 samePair Sparse a st = eqb (a .precision) (st .hll .precision) && eqb (a .«sparse_precision») (st .hll .sparsePrecision)
 samePair Dense a st = true
 
+abbrev pub hasBoth : State → Bool
+hasBoth st = not (isEmpty (dataOf st)) && hasField (st .hll .sparseData)
+
 -- "16: Is it carried: s not 0, no data bytes beside a sparse field (even empty), and, at a sparse roll-up, p and s equal?"
 abbrev pub carried : Accumulator → State → Bool
-carried a st =
-    not (eqb (st .hll .sparsePrecision) 0)
-    && not (not (isEmpty (dataOf st)) && hasField (st .hll .sparseData))
-    && samePair (a .form) a st
+carried a st = not (eqb (st .hll .sparsePrecision) 0) && not (hasBoth st) && samePair (a .form) a st
 
 -- Questions 15 and 16, of a state that passed those before: whether it matches the roll-up. 0 where both are yes.
 unfoldable pub matchAnswer : Accumulator → State → ℕ

@@ -35,13 +35,14 @@ maskOf t = cond (eqb t 0) 15 (cond (eqb t 7) 2 (cond (eqb t 8) 1 12))
 abbrev pub first : ℕ → ℕ → ℕ
 first n next = ask (eqb n 0) n next
 
--- "7: Type 112? 8: Version 2? 9: Value type 0, 7, 8 or 11?" Here and below the answer is 0 where all are yes.
+-- The type and the version of a state.
 abbrev pub stateType : ℕ
 stateType = 112
 
 abbrev pub stateVersion : ℕ
 stateVersion = 2
 
+-- "7: Type 112? 8: Version 2? 9: Value type 0, 7, 8 or 11?" Here and below, 0 where all are yes.
 unfoldable pub kindAnswer : State → ℕ
 kindAnswer st = ask (eqb (st .aggregatorType) stateType) 7 (ask (eqb (st .encodingVersion) stateVersion) 8 (ask (isValueType (st .valueType)) 9 0))
 
@@ -60,7 +61,7 @@ needsPair st = not (isEmpty (listOf st)) || (isEmpty (dataOf st) && not (eqb (st
 abbrev pub pairInRange : State → Bool
 pairInRange st = not (needsPair st) || sparseRange (st .hll .precision) (st .hll .sparsePrecision)
 
--- "11: p in 4..24?", and 7 to 13.
+-- Questions 7 to 13. "11: p in 4..24?"
 unfoldable pub structureAnswer : State → ℕ
 structureAnswer st =
     first (kindAnswer st)
@@ -77,10 +78,10 @@ registersInRange st = leb (largest (dataOf st)) (topRank (st .hll .precision))
 unfoldable pub headerAnswer : State → ℕ
 headerAnswer st = first (structureAnswer st) (ask (registersInRange st) 14 0)
 
--- The state, where the answer is 0.
+-- A state that was read, where the answer is 0.
 abbrev pub passing : ℕ → State → Read State
 passing n st = cond (eqb n 0) (got st []) (refused n)
 
--- Questions 2 to 14, of bytes. "2: Has the state at most 2,147,483,647 bytes?"
+-- Questions 2 to 14, of the bytes alone. "2: Has the state at most 2,147,483,647 bytes?"
 unfoldable pub readHeader : List ℕ → Read State
 readHeader bytes = cond (leb (length bytes) 2147483647) (andThen (readState bytes) (λ st nothing. passing (headerAnswer st) st)) (refused 2)

@@ -1,17 +1,15 @@
-// Judging a state before anything is written: questions 2 to 14, of the bytes alone (`read_header`), 2 to 16 (`judge`), 17 (`has_room`) and 18 to 20 (`decode_listed`). Ported from the first
-// part of `Accumulator::add_view` and from `start` and `merge_sparse` in src/accumulator.rs of zetasketch-rs at commit 9abe68bf87 (Apache-2.0,
-// see NOTICE). Changed: every question stands in front of the first store, document 01's numbers are in the place of `Result` and strings,
-// and a list is read into a lent slice.
+// Judging a state before anything is written: questions 2 to 14, of the bytes alone (`read_header`), 2 to 16 (`judge`), 17 (`has_room`) and 18 to 20
+// (`decode_listed`). Ported from the first part of `Accumulator::add_view` and from `start` and `merge_sparse` in src/accumulator.rs of zetasketch-rs
+// at commit 9abe68bf87 (Apache-2.0, see NOTICE). Changed: every question stands in front of the first store, document 01's numbers are in the
+// place of `Result` and strings, and a list is read into a lent slice.
 ghost use mathlib.Core.Path.{_≡_};
 ghost use mathlib.Core.List.{List};
-ghost use mathlib.Core.Bool.{_&&_, not};
 ghost use Prim.Native.Nat.{ℕ, _+_, _^_, _<_, _≤_};
 ghost use lib.ListN.{length};
 ghost use Rattle.wire.specs.State.{stateOf};
 ghost use Rattle.lists.specs.Lists.{Decodes};
 ghost use Rattle.rollup.specs.Accumulator.{mem};
-ghost use Rattle.rollup.specs.Header.{dataOf, isEmpty};
-ghost use Rattle.rollup.specs.Adding.{masksMeet, hasField, samePair, carried, matchAnswer, wantedPrecision, wantedRegisters, wantedCells, hasRoom, listedIn};
+ghost use Rattle.rollup.specs.Adding.{masksMeet, hasBoth, samePair, carried, matchAnswer, wantedPrecision, wantedRegisters, wantedCells, hasRoom, listedIn};
 ghost use Rattle.rollup.specs.Judging.{HeaderPost, JudgePost, judgedRefusal, parsedRefusal, RoomPre, ListedPre};
 use crate::accumulator::Accumulator;
 use crate::accumulator::Form;
@@ -79,7 +77,7 @@ fn masks_meet(a: Accumulator, f: Fields) -> bool
 
 // 16: data bytes beside a sparse field, even an empty one.
 fn has_both(bytes: &[u8], f: Fields) -> bool
-    ensures { λ r. ⌜ r ≡ not (isEmpty (dataOf (stateOf (now (bytes .entry)) f))) && hasField (stateOf (now (bytes .entry)) f .hll .sparseData) ⌝ }
+    ensures { λ r. ⌜ r ≡ hasBoth (stateOf (now (bytes .entry)) f) ⌝ }
 {
     if !header::has_data(bytes, f) {
         return false;
