@@ -22,7 +22,7 @@ use Rattle.rollup.specs.declared.adding.AddedFitting.{AddedFitting}
 use Rattle.rollup.specs.Accumulator.{Mem, keptOf, fits}
 use Rattle.rollup.specs.Header.{dataOf, listOf}
 use Rattle.rollup.specs.Taking.{After, pathOf, takenAfter}
-use Rattle.rollup.specs.Adding.{Outcome, refuse, accept, numbersOf, stateNumbers, acceptedAfter, judge, hasRoom, listedIn, question, opened, addOutcome, judgeState, Shows, Free, AddPost}
+use Rattle.rollup.specs.Adding.{Outcome, refuse, accept, numbersOf, stateNumbers, acceptedAfter, judge, hasRoom, listedIn, question, opened, addOutcome, judgeAnswer, Shows, Free, AddPost}
 use Rattle.rollup.specs.Judging.{judgedRefusal, JudgePost, RoomPre, ListedPre}
 use Rattle.rollup.specs.Paths.{KnownDistinct, PathPre}
 use Rattle.rollup.specs.Accepting.{TakePre, TakingPre, distinctAfter, AcceptPre, decodedRefusal, AcceptPost, FittingPost}
@@ -202,11 +202,11 @@ module _ (a : Accumulator) (m : Mem) (room : ℕ) (bytes : List ℕ) (fit : fits
     is-state : JudgePost a bytes (JudgedState f)
     is-state = subst (JudgePost a bytes) e post
 
-    state-judged : judgeState a (stateOf bytes f) ≡ got (stateOf bytes f) []
+    state-judged : judgeAnswer a (stateOf bytes f) ≡ 0
     state-judged = judged-state a bytes f is-state
 
     pub room-pre : RoomPre a m (stateOf bytes f)
-    room-pre = record { fit = fit; judged = state-judged }
+    room-pre = record { fit = fit; judged = state-judged; short = judged-short a bytes f is-state }
 
     pub room-stop : hasRoom a m room (stateOf bytes f) ≡ false → AddPost a m room bytes (record { answer = 17; head = a }) m
     room-stop h = refused-post a m room bytes 17 (add-full a m room bytes (stateOf bytes f) [] fit (sym (is-state .answer)) h)

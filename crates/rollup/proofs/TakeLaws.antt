@@ -19,7 +19,7 @@ use Rattle.rollup.specs.declared.incoming.Incoming.{Incoming}
 use Rattle.rollup.specs.Accumulator.{Mem, mem, fits}
 use Rattle.rollup.specs.Header.{dataOf, listOf}
 use Rattle.rollup.specs.Taking.{takenAfter, sparseAfter}
-use Rattle.rollup.specs.Adding.{stateNumbers, judgeState, wantedPrecision, hasRoom, listedIn, Shows}
+use Rattle.rollup.specs.Adding.{stateNumbers, judgeAnswer, wantedPrecision, hasRoom, listedIn, Shows}
 use Rattle.rollup.specs.Starting.{StartPre, StartPost}
 use Rattle.rollup.specs.DensePaths.{DensePre, DensePost}
 use Rattle.rollup.specs.Accepting.{TakePre}
@@ -42,7 +42,7 @@ fit-kept a m e = by-form (a .form) refl
 -- Every question was answered with yes.
 pub record Ready (a : Accumulator) (m : Mem) (room : ℕ) (st : State) (vs : List ℕ) : Type 0 where
   pub fit : fits a m ≡ true
-  pub judged : judgeState a st ≡ got st []
+  pub judged : judgeAnswer a st ≡ 0
   pub space : hasRoom a m room st ≡ true
   pub listed : listedIn st ≡ got vs []
   pub short : length (listOf st) ≤ 2147483647

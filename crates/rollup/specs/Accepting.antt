@@ -18,7 +18,7 @@ use Rattle.rollup.specs.declared.incoming.Incoming.{Incoming}
 use Rattle.rollup.specs.declared.paths.Path.{Path}
 use Rattle.rollup.specs.declared.paths.Path.the-variants.{None, Waits, Sorts, Inserts, Merges}
 use Rattle.rollup.specs.declared.adding.AddedFitting.{AddedFitting}
-use Rattle.rollup.specs.Accumulator.{Mem, keptOf, fits}
+use Rattle.rollup.specs.Accumulator.{Mem, keptOf, maxPending, fits}
 use Rattle.rollup.specs.Header.{dataOf}
 use Rattle.rollup.specs.Taking.{pathOf}
 use Rattle.rollup.specs.Adding.{stateNumbers, acceptedAfter, wantedPrecision, Shows, AddPost}
@@ -47,7 +47,7 @@ pub record TakePre (a : Accumulator) (m : Mem) (room : ℕ) (x : Incoming) (row 
   pub incoming-short : length vs ≤ 2147483647
   pub growth-low : 5 * length vs ≤ x .growth
   pub growth-high : x .growth ≤ 5 * 2147483647
-  pub most : x .most ≤ 2048
+  pub most : x .most ≤ maxPending
 
 -- The first k cells of `scratch` are the values, and the path is theirs.
 pub record TakingPre (a : Accumulator) (m : Mem) (scratch : List ℕ) (x : Incoming) (path : Path) (row : List ℕ) (k : ℕ) : Type 0 where

@@ -3,6 +3,7 @@ use Prim.Native.Nat.{ℕ, _*_}
 use mathlib.Core.Path.{ap}
 use mathlib.Core.List.{List}
 use Rattle.rollup.specs.declared.incoming.Incoming.{Incoming}
+use Rattle.rollup.specs.Accumulator.{maxPending}
 use borrow.Author.Needs.{needs}
 use Rattle.rollup.proofs.adding.state_numbers.Statement.{statement}
 use Rattle.rollup.proofs.adding.state_numbers.Tie as tie
@@ -29,7 +30,7 @@ returns c =
       «sparse_size» = a .f .hll .«sparse_size»;
       «list_bytes» = a .list-bytes;
       growth = 5 * a .k;
-      most = 2048;
+      most = maxPending;
     } in
     x) (c .allowed-types .ensures)
 
