@@ -1,13 +1,11 @@
--- Laws of reading lists: a gap byte by byte, one value after another, what an accepted list is, and that what is written is read back.
-use Prim.Native.Nat.{ℕ, zero, suc, _+_, _*_, _-_, _/_, _%_, _^_, _<_, _≤_}
+-- Laws of reading lists: a gap, one value after another, what an accepted list is, and that what is written is read back.
+use Prim.Native.Nat.{ℕ, zero, suc, _+_, _*_, _-_, _%_, _^_, _<_, _≤_}
 use mathlib.Core.Path.{_≡_, refl, sym, ap, ap₂, _∙_, subst}
 use mathlib.Core.List.{List, [], _∷_, _++_, append-assoc, append-nil}
 use mathlib.Core.Bool.{Bool, true, false, cond, _&&_, _||_, and-assoc, and-true, true≢false}
 use mathlib.Core.Logic.{_⊎_, inl, inr, ⊎-elim}
-use native.Mathlib.Nat.{mul-add, mul-comm, mul-assoc}
 use native.Mathlib.Numerals.{add-one}
 use native.Mathlib.Omega.{arith}
-use lib.Arith.{digits-lt}
 use lib.ListN.{length, set, drop, take, getD, drop-of-length-le, length-drop, length-append}
 use lib.Seq.{length-take-le, take-suc-set}
 use lib.Pow.{pow-pos}
@@ -15,8 +13,8 @@ use lib.Dec.{ltb, leb, eqb}
 use borrow.Author.Tests.{lt-ltb, le-ltb, le-leb, ltb-true, ltb-false, leb-true}
 use Rattle.wire.proofs.BoolLaws.{both, both-true, whichever}
 use Rattle.wire.specs.Reading.{Read, got, refused, andThen}
-use Rattle.wire.specs.Varints.{varintOf, varintBytes, payload}
-use Rattle.wire.proofs.VarintLaws.{side, weighed, varint-none, varint-end, varint-last, varint-more, len-last, len-more, len-pos, there-and-back}
+use Rattle.wire.specs.Varints.{varintOf, varintBytes}
+use Rattle.wire.proofs.VarintLaws.{side, Begun, begun-long, begun-end, begun-last, begun-more, len-pos, there-and-back, short-varint}
 use denote.Enum.Declared as E
 use Rattle.lists.proofs.decoding.Gap.{enum as gap-enum}
 use Rattle.lists.proofs.decoding.Step.{enum as step-enum}
@@ -30,7 +28,7 @@ use Rattle.lists.specs.Sorting.{notBefore, ascends}
 use Rattle.lists.specs.Lists.{gapAnswer, gapOf, GapPost, gapRefusal, refusedHere, before, sumsOf, stepOf, stepRefusal, StepPost, allValid, decodeOf, Decodes, encodeFrom, encodeList, writtenFrom, written}
 use Rattle.lists.proofs.ValueLaws.{decided, mark-sparse, below-mark, plain-valid, valid-plain, marked-valid, valid-index, valid-low, valid-lt}
 
--- ---- a gap, byte by byte
+-- ---- a gap
 
 gap-is : (l : List ℕ) (r : Read ℕ) → varintOf 5 l ≡ r → gapAnswer r ≡ gapOf l
 unfolding gapOf
@@ -42,95 +40,29 @@ gap-small v rest h = rw (lt-ltb v (2 ^ 32) h)
 gap-large : (v : ℕ) (rest : List ℕ) → 2 ^ 32 ≤ v → gapAnswer (got v rest) ≡ refused 19
 gap-large v rest h = rw (le-ltb v (2 ^ 32) h)
 
-module _ {s : List ℕ} {at : ℕ} where
-  cut-post : varintOf 5 (drop at s) ≡ refused 3 → GapPost s at Cut
-  cut-post e = record { answer = gap-is (drop at s) (refused 3) e; inside = tt }
+module _ {s : List ℕ} {start at w x : ℕ} (n : ℕ) (g : Begun 5 s start at (suc n) w x) where
+  pub gap-cut : length s ≤ at → GapPost s start Cut
+  gap-cut h = record { answer = gap-is (drop start s) (refused 3) (begun-end n g h); inside = tt }
 
-  long-post : varintOf 5 (drop at s) ≡ refused 4 → GapPost s at Long
-  long-post e = record { answer = gap-is (drop at s) (refused 4) e; inside = tt }
-
-  high-post : (v : ℕ) (rest : List ℕ) → varintOf 5 (drop at s) ≡ got v rest → 2 ^ 32 ≤ v → GapPost s at Long
-  high-post v rest e h = record { answer = sym (gap-large v rest h) ∙ gap-is (drop at s) (got v rest) e; inside = tt }
-
-  value-post : (v next : ℕ) → varintOf 5 (drop at s) ≡ got v (drop next s) → v < 2 ^ 32 → at < next → next ≤ length s → GapPost s at (Value v next)
-  value-post v next e h lo hi =
-      record { answer = sym (gap-small v (drop next s) h) ∙ gap-is (drop at s) (got v (drop next s)) e; inside = (lo, hi) }
-
--- b is the byte at `at`, as the reader has it
-module _ (s : List ℕ) (at n : ℕ) {b : ℕ} (inside : at < length s) (e : b ≡ getD s at 0) where
-  byte-last : b < 128 → varintOf (suc n) (drop at s) ≡ got b (drop (at + 1) s)
-  byte-last l = varint-last s at n inside (subst (λ (y : ℕ). y < 128) e l) ∙ ap (λ (y : ℕ). got y (drop (at + 1) s)) (sym e)
-
-  byte-more : 128 ≤ b → b < 256 → varintOf (suc n) (drop at s) ≡ payload (b - 128) (varintOf n (drop (at + 1) s))
-  byte-more l u =
-      varint-more s at n inside (subst (λ (y : ℕ). 128 ≤ y) e l)
-      ∙ ap (λ (y : ℕ). payload y (varintOf n (drop (at + 1) s))) (let f : getD s at 0 % 128 ≡ b - 128 = omega arith in f)
-
--- Where the reader of a gap of more than one byte is: those before `at` have the value x, and what the rest reads as, in at most n bytes,
--- weighs w.
-pub record Begun (s : List ℕ) (start at n w x : ℕ) : Type 0 where
-  pub on : start < at
-  pub small : x < w
-  pub whole : varintOf 5 (drop start s) ≡ weighed w x (varintOf n (drop at s))
-
--- One payload more.
-weighed-more : (w x y : ℕ) (r : Read ℕ) → weighed w x (payload y r) ≡ weighed (w * 128) (x + y * w) r
-weighed-more w x y (got v l) =
-    ap (λ (z : ℕ). got z l)
-    (let e : x + w * (y + 128 * v) ≡ x + y * w + w * 128 * v = omega (arith, mul-add w y (128 * v), mul-comm y w, mul-assoc w 128 v) in e)
-weighed-more w x y (refused n) = refl
-
--- A first byte of 128 or more has the lowest payload.
-weighed-first : (y : ℕ) (r : Read ℕ) → payload y r ≡ weighed 128 y r
-weighed-first y (got v l) = refl
-weighed-first y (refused n) = refl
-
--- The first byte.
-module _ {s : List ℕ} {at : ℕ} where
-  pub gap-end : length s ≤ at → GapPost s at Cut
-  gap-end h = cut-post (varint-end s at 4 h)
-
-  module _ {b : ℕ} (inside : at < length s) (e : b ≡ getD s at 0) where
-    pub gap-one : b < 128 → GapPost s at (Value b (at + 1))
-    gap-one l = value-post b (at + 1) (byte-last s at 4 inside e l) (omega arith) (omega arith) (omega arith)
-
-    pub gap-begun : 128 ≤ b → b < 256 → Begun s at (at + 1) 4 128 (b - 128)
-    gap-begun l u =
-        record { on = omega arith; small = omega arith; whole = byte-more s at 4 inside e l u ∙ weighed-first (b - 128) (varintOf 4 (drop (at + 1) s)) }
-
--- The others.
-module _ {s : List ℕ} {start at w x : ℕ} (n : ℕ) (g : Begun s start at (suc n) w x) where
-  pub begun-end : length s ≤ at → GapPost s start Cut
-  begun-end h = cut-post (g .whole ∙ ap (weighed w x) (varint-end s at n h))
-
-  module _ {b : ℕ} (inside : at < length s) (e : b ≡ getD s at 0) where
-    last-is : b < 128 → varintOf 5 (drop start s) ≡ got (x + b * w) (drop (at + 1) s)
-    last-is l =
-        g .whole ∙ ap (weighed w x) (byte-last s at n inside e l) ∙ ap (λ (y : ℕ). got (x + y) (drop (at + 1) s)) (mul-comm w b)
-
-    pub begun-last : b < 128 → x + b * w < 2 ^ 32 → GapPost s start (Value (x + b * w) (at + 1))
-    begun-last l h = value-post (x + b * w) (at + 1) (last-is l) h (omega (arith, g .on)) (omega arith)
-
-    more-is : 128 ≤ b → b < 256 → varintOf 5 (drop start s) ≡ weighed (w * 128) (x + (b - 128) * w) (varintOf n (drop (at + 1) s))
-    more-is l u = g .whole ∙ ap (weighed w x) (byte-more s at n inside e l u) ∙ weighed-more w x (b - 128) (varintOf n (drop (at + 1) s))
-
-    pub begun-more : 128 ≤ b → b < 256 → Begun s start (at + 1) n (w * 128) (x + (b - 128) * w)
-    begun-more l u =
-        record {
-          on = omega (arith, g .on);
-          small =
-              let d = digits-lt {q = b - 128} {m = 128} (let h : b - 128 < 128 = omega arith in h) (g .small) in
-              omega (arith, d, mul-comm 128 w);
-          whole = more-is l u;
-        }
+  pub gap-last : {b v : ℕ} → at < length s → b ≡ getD s at 0 → b < 128 → v ≡ x + b * w → v < 2 ^ 32 → GapPost s start (Value v (at + 1))
+  gap-last {b} {v} inside e l f h =
+      record {
+        answer =
+            sym (gap-small v (drop (at + 1) s) h)
+            ∙ gap-is (drop start s) (got v (drop (at + 1) s)) (begun-last n g inside e l ∙ ap (λ (y : ℕ). got y (drop (at + 1) s)) (sym f));
+        inside = (omega (arith, g .on), omega arith);
+      }
 
 -- A fifth byte with a bit of f0: of 16 to 127 it makes a value of 2^32 or more, and of 128 or more one of more than five bytes.
-pub begun-long : {s : List ℕ} {start at x b : ℕ} → Begun s start at 1 0x1000_0000 x → at < length s → b ≡ getD s at 0 → 16 ≤ b → b < 256
-    → GapPost s start Long
-begun-long {s} {start} {at} {x} {b} g inside e h u =
-    ⊎-elim (λ (l : b < 128). high-post (x + b * 0x1000_0000) (drop (at + 1) s) (last-is 0 g inside e l) (omega arith))
-    (λ (l : 128 ≤ b). long-post (more-is 0 g inside e l u ∙ ap (weighed 0x8_0000_0000 (x + (b - 128) * 0x1000_0000)) (varint-none (drop (at + 1) s))))
-    (side b 128)
+pub gap-long : {s : List ℕ} {start at x b : ℕ} → Begun 5 s start at 1 0x1000_0000 x → at < length s → b ≡ getD s at 0 → 16 ≤ b → GapPost s start Long
+gap-long {s} {start} {at} {x} {b} g inside e h =
+    ⊎-elim
+    (λ (l : b < 128).
+    long (sym (gap-large (x + b * 0x1000_0000) (drop (at + 1) s) (omega arith)) ∙ gap-is (drop start s) _ (begun-last 0 g inside e l)))
+    (λ (l : 128 ≤ b). long (gap-is (drop start s) (refused 4) (begun-long (begun-more 0 g inside e l refl)))) (side b 128)
+  where
+    long : refused 19 ≡ gapOf (drop start s) → GapPost s start Long
+    long f = record { answer = f; inside = tt }
 
 -- ---- tests
 
@@ -461,32 +393,6 @@ module _ {p s : ℕ} {bytes out : List ℕ} {at k last plain : ℕ} (g : Going p
         (ap Done (sym (length-take-le k out room)), ap (λ (n : ℕ). take n out) (length-take-le k out room))
 
 -- ---- what an accepted list is
-
--- A value in its fewest bytes is no longer than the bytes that it was read from.
-short-varint : (n : ℕ) (l : List ℕ) (v : ℕ) (rest : List ℕ) → varintOf n l ≡ got v rest → length (varintBytes n v) + length rest ≤ length l
-short-varint zero l v rest e = absurd (let z : _≡_ {A = ℕ} 0 1 = cc (varint-none l) in omega arith)
-short-varint (suc n) [] v rest e = absurd (let z : _≡_ {A = ℕ} 0 1 = cc (varint-end [] 0 n (omega arith)) in omega arith)
-short-varint (suc n) (b ∷ l) v rest e =
-    ⊎-elim
-    (λ (h : b < 128).
-    let f : got b l ≡ got v rest = sym (varint-last (b ∷ l) 0 n (omega arith) h) ∙ e in
-    let x : b ≡ v = cc in
-    let y : l ≡ rest = cc in
-    omega (arith, ap length y, len-last n v (subst (λ (k : ℕ). k < 128) x h)))
-    (λ (h : 128 ≤ b). go (short-varint n l) (varintOf n l) refl (sym (varint-more (b ∷ l) 0 n (omega arith) h) ∙ e)) (side b 128)
-  where
-    go : ((w : ℕ) (rest : List ℕ) → varintOf n l ≡ got w rest → length (varintBytes n w) + length rest ≤ length l)
-        → (r : Read ℕ) → varintOf n l ≡ r → payload (b % 128) r ≡ got v rest → length (varintBytes (suc n) v) + length rest ≤ suc (length l)
-    go ih (refused k) f g = absurd (let z : _≡_ {A = ℕ} 0 1 = cc in omega arith)
-    go ih (got w rest′) f g =
-        let x : b % 128 + 128 * w ≡ v = cc in
-        let y : rest′ ≡ rest = cc in
-        let i : length (varintBytes n w) + length rest ≤ length l = ih w rest (f ∙ ap (λ (z : List ℕ). got w z) y) in
-        ⊎-elim (λ (h : v < 128). let a : length (varintBytes (suc n) v) + length rest ≤ suc (length l) = omega (arith, len-last n v h) in a)
-        (λ (h : 128 ≤ v).
-        let q : v / 128 ≡ w = omega arith in
-        let a : length (varintBytes (suc n) v) + length rest ≤ suc (length l) = omega (arith, len-more n v h, ap (λ (k : ℕ). length (varintBytes n k)) q) in a)
-        (side v 128)
 
 -- What is known of a gap that was read.
 record Gapped (l : List ℕ) (gap : ℕ) (rest : List ℕ) : Type 0 where
