@@ -11,7 +11,7 @@ use lib.Seq.{length-take-le, take-suc-set}
 use lib.Pow.{pow-pos}
 use lib.Dec.{ltb, leb, eqb}
 use borrow.Author.Tests.{lt-ltb, le-ltb, le-leb, ltb-true, ltb-false, leb-true}
-use Rattle.wire.proofs.BoolLaws.{both, both-true, whichever}
+use Rattle.wire.proofs.BoolLaws.{both, both-true, absorbed, whichever}
 use Rattle.wire.specs.Reading.{Read, got, refused, andThen}
 use Rattle.wire.specs.Varints.{varintOf, varintBytes}
 use Rattle.wire.proofs.VarintLaws.{side, Begun, begun-long, begun-end, begun-last, begun-more, len-pos, there-and-back, short-varint}
@@ -25,7 +25,7 @@ use Rattle.lists.specs.declared.decoding.Step.the-variants.{Next, Refuse
 use Rattle.lists.specs.declared.decoding.Decoded.the-variants.{Done, Refused}
 use Rattle.lists.specs.Values.{marked, valid, Pair}
 use Rattle.lists.specs.Sorting.{notBefore, ascends}
-use Rattle.lists.specs.Lists.{gapAnswer, gapOf, GapPost, gapRefusal, refusedHere, before, sumsOf, stepOf, stepRefusal, StepPost, allValid, decodeOf, Decodes, encodeFrom, encodeList, writtenFrom, written}
+use Rattle.lists.specs.Lists.{gapAnswer, gapOf, GapPost, gapRefusal, refusedHere, before, sumsOf, stepOf, stepRefusal, NextValuePost, allValid, laterPlain, endsValid, decodeOf, Decodes, encodeFrom, encodeList, writtenFrom, written}
 use Rattle.lists.proofs.ValueLaws.{decided, mark-sparse, below-mark, plain-valid, valid-plain, marked-valid, valid-index, valid-low, valid-lt}
 
 -- ---- a gap
@@ -101,19 +101,22 @@ module _ (p s last v : ℕ) where
 pub small-valid : (p s v : ℕ) → v < 2 ^ s → valid p s v ≡ true
 small-valid p s v h = plain-valid p s v (below-mark p s v (omega (arith, mark-sparse p s))) h
 
+pub all-append : (p s : ℕ) (a b : List ℕ) → allValid p s (a ++ b) ≡ (allValid p s a && allValid p s b)
+unfolding allValid
+all-append p s [] b = refl
+all-append p s (v ∷ a) b = ap (λ (t : Bool). valid p s v && t) (all-append p s a b) ∙ sym (and-assoc (valid p s v) (allValid p s a) (allValid p s b))
+
 all-more : (p s : ℕ) (vs : List ℕ) (v : ℕ) → allValid p s (vs ++ (v ∷ [])) ≡ (allValid p s vs && valid p s v)
 unfolding allValid
-all-more p s [] v = and-true (valid p s v)
-all-more p s (w ∷ vs) v = ap (λ (t : Bool). valid p s w && t) (all-more p s vs v) ∙ sym (and-assoc (valid p s w) (allValid p s vs) (valid p s v))
+all-more p s vs v = all-append p s vs (v ∷ []) ∙ ap (λ (t : Bool). allValid p s vs && t) (and-true (valid p s v))
 
 -- Of values that do not descend, and of which none was refused where it was read: the last one, and the last with the mark bit clear, or 0
 -- where there is none. Where these two are valid, all are: no plain value is above the last one, and no marked one's index.
 pub record Checked (p s : ℕ) (vs : List ℕ) (last plain : ℕ) : Type 0 where
   pub below : plain ≤ last
   pub clear : marked p s last ≡ false → last ≡ plain
-  pub rank : marked p s last ≡ true → last % 64 ≤ 65 - s
-  pub all : valid p s plain ≡ true → valid p s last ≡ true → allValid p s vs ≡ true
-  pub each : allValid p s vs ≡ true → (valid p s plain ≡ true) × (valid p s last ≡ true)
+  pub low : marked p s last ≡ true → last % 64 ≤ 65 - s
+  pub ends : endsValid p s plain last ≡ allValid p s vs
 
 checked-none : (p s : ℕ) → Checked p s [] 0 0
 unfolding allValid
@@ -121,10 +124,14 @@ checked-none p s =
     record {
       below = omega arith;
       clear = λ e. refl;
-      rank = λ e. omega arith;
-      all = λ e f. refl;
-      each = λ e. (small-valid p s 0 (pow-pos s), small-valid p s 0 (pow-pos s));
+      low = λ e. omega arith;
+      ends = both (small-valid p s 0 (pow-pos s)) (small-valid p s 0 (pow-pos s));
     }
+
+-- The middle one of three follows from the others.
+middle : (a b c : Bool) → (a ≡ true → c ≡ true → b ≡ true) → (a && c) ≡ ((a && b) && c)
+middle true b c f = sym (absorbed b c (f refl))
+middle false b c f = refl
 
 module _ {p s : ℕ} {vs : List ℕ} {last plain : ℕ} (c : Checked p s vs last plain) (v : ℕ) (here : refusedHere p s last v ≡ false) where
   -- What comes before a valid value with the mark bit clear is below 2^s, as that is.
@@ -135,27 +142,24 @@ module _ {p s : ℕ} {vs : List ℕ} {last plain : ℕ} (c : Checked p s vs last
   before-marked m e t =
       ⊎-elim
       (λ (g : marked p s last ≡ true).
-      marked-valid p s last g (omega (arith, valid-index p s v m t, not-less p s last v here)) (c .rank g))
+      marked-valid p s last g (omega (arith, valid-index p s v m t, not-less p s last v here)) (c .low g))
       (λ (g : marked p s last ≡ false). subst (λ (x : ℕ). valid p s x ≡ true) (sym (c .clear g)) e) (decided (marked p s last))
 
-  whole-valid : allValid p s vs ≡ true → valid p s v ≡ true → allValid p s (vs ++ (v ∷ [])) ≡ true
-  whole-valid e f = all-more p s vs v ∙ both e f
-
-  front-valid : allValid p s (vs ++ (v ∷ [])) ≡ true → allValid p s vs ≡ true
-  front-valid e = both-true (allValid p s vs) (valid p s v) (sym (all-more p s vs v) ∙ e) .0
-
-  last-valid : allValid p s (vs ++ (v ∷ [])) ≡ true → valid p s v ≡ true
-  last-valid e = both-true (allValid p s vs) (valid p s v) (sym (all-more p s vs v) ∙ e) .1
+  -- The two of one value more decide, where those before do.
+  ends-more : (q : ℕ) → endsValid p s q v ≡ (endsValid p s plain last && valid p s v) → endsValid p s q v ≡ allValid p s (vs ++ (v ∷ []))
+  ends-more q e = e ∙ ap (λ (t : Bool). t && valid p s v) (c .ends) ∙ sym (all-more p s vs v)
 
   more-plain : marked p s v ≡ false → Checked p s (vs ++ (v ∷ [])) v v
   more-plain m =
       record {
         below = omega arith;
         clear = λ e. refl;
-        rank = λ e. absurd (true≢false (sym e ∙ m));
-        all = λ (e : valid p s v ≡ true) (f : valid p s v ≡ true).
-            whole-valid (c .all (before-plain plain (c .below) m e) (before-plain last (omega arith) m e)) e;
-        each = λ (e : allValid p s (vs ++ (v ∷ [])) ≡ true). (last-valid e, last-valid e);
+        low = λ e. absurd (true≢false (sym e ∙ m));
+        ends =
+            ends-more v
+            (absorbed (valid p s v) (valid p s v) (λ t. t)
+            ∙ sym (absorbed (endsValid p s plain last) (valid p s v)
+            (λ (t : valid p s v ≡ true). both (before-plain plain (c .below) m t) (before-plain last (omega arith) m t))));
       }
 
   more-marked : marked p s v ≡ true → Checked p s (vs ++ (v ∷ [])) v plain
@@ -163,12 +167,11 @@ module _ {p s : ℕ} {vs : List ℕ} {last plain : ℕ} (c : Checked p s vs last
       record {
         below = omega (arith, c .below, not-less p s last v here);
         clear = λ e. absurd (true≢false (sym m ∙ e));
-        rank = λ e. rank-fits p s last v here m;
-        all = λ (e : valid p s plain ≡ true) (f : valid p s v ≡ true). whole-valid (c .all e (before-marked m e f)) f;
-        each = λ (e : allValid p s (vs ++ (v ∷ [])) ≡ true). (c .each (front-valid e) .0, last-valid e);
+        low = λ e. rank-fits p s last v here m;
+        ends = ends-more plain (middle (valid p s plain) (valid p s last) (valid p s v) (before-marked m));
       }
 
-  checked-more : {q : ℕ} → q ≡ cond (marked p s v) plain v → Checked p s (vs ++ (v ∷ [])) v q
+  checked-more : {q : ℕ} → q ≡ laterPlain p s plain v → Checked p s (vs ++ (v ∷ [])) v q
   checked-more e =
       ⊎-elim
       (λ (m : marked p s v ≡ true).
@@ -203,24 +206,24 @@ abbrev pub NoStep : Step → Type 0
 NoStep r = E.tagOf (E.declared step-enum) r ≡ 1
 
 module _ {p s : ℕ} {bytes : List ℕ} {at last : ℕ} where
-  step-cut : GapPost bytes at Cut → StepPost p s bytes at last (StepRefused 18)
+  step-cut : GapPost bytes at Cut → NextValuePost p s bytes at last (StepRefused 18)
   step-cut g = record { answer = step-of p s bytes at last (refused 18) (g .answer); inside = tt }
 
-  step-long : GapPost bytes at Long → StepPost p s bytes at last (StepRefused 19)
+  step-long : GapPost bytes at Long → NextValuePost p s bytes at last (StepRefused 19)
   step-long g = record { answer = step-of p s bytes at last (refused 19) (g .answer); inside = tt }
 
-  pub step-no-gap : (g : Gap) (n : ℕ) → NoGap g → GapPost bytes at g → n ≡ gapRefusal g → StepPost p s bytes at last (StepRefused n)
+  pub step-no-gap : (g : Gap) (n : ℕ) → NoGap g → GapPost bytes at g → n ≡ gapRefusal g → NextValuePost p s bytes at last (StepRefused n)
   step-no-gap (Value v next) n (inl k) a e = absurd (let z : ⊥ = omega arith in z)
   step-no-gap (Value v next) n (inr k) a e = absurd (let z : ⊥ = omega arith in z)
-  step-no-gap Cut n k a e = subst (λ (j : ℕ). StepPost p s bytes at last (StepRefused j)) (sym e) (step-cut a)
-  step-no-gap Long n k a e = subst (λ (j : ℕ). StepPost p s bytes at last (StepRefused j)) (sym e) (step-long a)
+  step-no-gap Cut n k a e = subst (λ (j : ℕ). NextValuePost p s bytes at last (StepRefused j)) (sym e) (step-cut a)
+  step-no-gap Long n k a e = subst (λ (j : ℕ). NextValuePost p s bytes at last (StepRefused j)) (sym e) (step-long a)
 
   pub step-refused : {gap next : ℕ} (v : ℕ) → GapPost bytes at (Value gap next) → v ≡ (last + gap) % 2 ^ 32 → true ≡ refusedHere p s last v
-      → StepPost p s bytes at last (StepRefused 20)
+      → NextValuePost p s bytes at last (StepRefused 20)
   step-refused {gap} {next} v g e f = record { answer = step-is p s bytes at last gap next v g e true f; inside = tt }
 
   pub step-next : {gap next v : ℕ} → GapPost bytes at (Value gap next) → v ≡ (last + gap) % 2 ^ 32 → false ≡ refusedHere p s last v
-      → StepPost p s bytes at last (Next v next)
+      → NextValuePost p s bytes at last (Next v next)
   step-next {gap} {next} {v} g e f = record { answer = step-is p s bytes at last gap next v g e false f; inside = g .inside }
 
 -- What is known of a value that was read: its gap, and that it was not refused.
@@ -298,17 +301,17 @@ joined-before l v (refused n) = refl
 abbrev asked : ℕ → ℕ → List ℕ → List ℕ → Read (List ℕ)
 asked p s vs rest = cond (allValid p s vs) (got vs rest) (refused 20)
 
--- Where the loop is: at most `bound` values are left, and the list's values are those written and those of the rest.
-pub record Going (p s : ℕ) (bytes out : List ℕ) (at k last plain : ℕ) : Type 0 where
+-- Where a walk over a list is that has read the values vs: at most `bound` are left, and the list's values are these and those of the rest.
+pub record Going (p s : ℕ) (bytes vs : List ℕ) (at last plain : ℕ) : Type 0 where
   pub bound : ℕ
   pub enough : length bytes ≤ at + bound
   pub inside : at ≤ length bytes
-  pub fewer : k ≤ at
-  pub whole : sumsOf p s (length bytes) bytes 0 ≡ joined (take k out) (sumsOf p s bound (drop at bytes) last)
-  pub checked : Checked p s (take k out) last plain
+  pub fewer : length vs ≤ at
+  pub whole : sumsOf p s (length bytes) bytes 0 ≡ joined vs (sumsOf p s bound (drop at bytes) last)
+  pub checked : Checked p s vs last plain
 
-pub going-start : (p s : ℕ) (bytes out : List ℕ) → Going p s bytes out 0 0 0 0
-going-start p s bytes out =
+pub going-start : (p s : ℕ) (bytes : List ℕ) → Going p s bytes [] 0 0 0
+going-start p s bytes =
     record {
       bound = length bytes;
       enough = omega arith;
@@ -318,79 +321,71 @@ going-start p s bytes out =
       checked = checked-none p s;
     }
 
-module _ {p s : ℕ} {bytes out : List ℕ} {at k last plain : ℕ} (g : Going p s bytes out at k last plain) where
+module _ {p s : ℕ} {bytes vs : List ℕ} {at last plain : ℕ} (g : Going p s bytes vs at last plain) where
   module _ (h : at < length bytes) where
     -- With the next value in front of the rest.
     one-more : (n : ℕ) × (length bytes ≤ at + 1 + n)
-        × (sumsOf p s (length bytes) bytes 0 ≡ joined (take k out) (andThen (stepOf p s (drop at bytes) last) (sumsFrom p s n)))
+        × (sumsOf p s (length bytes) bytes 0 ≡ joined vs (andThen (stepOf p s (drop at bytes) last) (sumsFrom p s n)))
     one-more = go (g .bound) (g .enough) (g .whole)
       where
-        go : (n : ℕ) → length bytes ≤ at + n → sumsOf p s (length bytes) bytes 0 ≡ joined (take k out) (sumsOf p s n (drop at bytes) last)
+        go : (n : ℕ) → length bytes ≤ at + n → sumsOf p s (length bytes) bytes 0 ≡ joined vs (sumsOf p s n (drop at bytes) last)
             → (n : ℕ) × (length bytes ≤ at + 1 + n)
-            × (sumsOf p s (length bytes) bytes 0 ≡ joined (take k out) (andThen (stepOf p s (drop at bytes) last) (sumsFrom p s n)))
+            × (sumsOf p s (length bytes) bytes 0 ≡ joined vs (andThen (stepOf p s (drop at bytes) last) (sumsFrom p s n)))
         go zero e w = absurd (let z : ⊥ = omega arith in z)
-        go (suc n) e w = (n, omega arith, w ∙ ap (joined (take k out)) (sums-step p s n last (drop at bytes) (omega (arith, length-drop at bytes))))
+        go (suc n) e w = (n, omega arith, w ∙ ap (joined vs) (sums-step p s n last (drop at bytes) (omega (arith, length-drop at bytes))))
 
     stepped-to : (r : Read ℕ) → r ≡ stepOf p s (drop at bytes) last
-        → sumsOf p s (length bytes) bytes 0 ≡ joined (take k out) (andThen r (sumsFrom p s (one-more .0)))
-    stepped-to r e = one-more .2 ∙ ap (λ (x : Read ℕ). joined (take k out) (andThen x (sumsFrom p s (one-more .0)))) (sym e)
+        → sumsOf p s (length bytes) bytes 0 ≡ joined vs (andThen r (sumsFrom p s (one-more .0)))
+    stepped-to r e = one-more .2 ∙ ap (λ (x : Read ℕ). joined vs (andThen x (sumsFrom p s (one-more .0)))) (sym e)
 
-    going-refused : {n : ℕ} → StepPost p s bytes at last (StepRefused n) → Decodes (decodeOf p s bytes) (Refused n) out
+    going-refused : {n : ℕ} → NextValuePost p s bytes at last (StepRefused n) → decodeOf p s bytes ≡ refused n
     unfolding decodeOf
-    going-refused {n} a =
-        subst (λ (x : Read (List ℕ)). Decodes (andThen x (asked p s)) (Refused n) out) (sym (stepped-to (refused n) (a .answer))) refl
+    going-refused {n} a = ap (λ (x : Read (List ℕ)). andThen x (asked p s)) (stepped-to (refused n) (a .answer))
 
-    pub going-stopped : (r : Step) (n : ℕ) → NoStep r → StepPost p s bytes at last r → n ≡ stepRefusal r → Decodes (decodeOf p s bytes) (Refused n) out
+    pub going-stopped : (r : Step) (n : ℕ) → NoStep r → NextValuePost p s bytes at last r → n ≡ stepRefusal r → decodeOf p s bytes ≡ refused n
     going-stopped (Next v next) n j a e = absurd (let z : ⊥ = omega arith in z)
-    going-stopped (StepRefused m) n j a e = subst (λ (i : ℕ). Decodes (decodeOf p s bytes) (Refused i) out) (sym e) (going-refused a)
+    going-stopped (StepRefused m) n j a e = going-refused a ∙ ap (λ (i : ℕ). refused i) (sym e)
 
-    pub going-next : {v next q : ℕ} → k < length out → StepPost p s bytes at last (Next v next) → q ≡ cond (marked p s v) plain v
-        → Going p s bytes (set out k v) next (k + 1) v q
-    going-next {v} {next} {q} room a e =
-        let t : take (k + 1) (set out k v) ≡ take k out ++ (v ∷ []) = ap (λ (n : ℕ). take n (set out k v)) (add-one k) ∙ take-suc-set out k v room in
+    pub going-next : {v next q : ℕ} → NextValuePost p s bytes at last (Next v next) → q ≡ laterPlain p s plain v → Going p s bytes (vs ++ (v ∷ [])) next v q
+    going-next {v} {next} a e =
         record {
           bound = one-more .0;
           enough = omega (arith, one-more .1, a .inside .0);
           inside = a .inside .1;
-          fewer = omega (arith, g .fewer, a .inside .0);
+          fewer = omega (arith, g .fewer, a .inside .0, length-append vs (v ∷ []));
           whole =
-              stepped-to (got v (drop next bytes)) (a .answer)
-              ∙ joined-before (take k out) v (sumsOf p s (one-more .0) (drop next bytes) v)
-              ∙ ap (λ (x : List ℕ). joined x (sumsOf p s (one-more .0) (drop next bytes) v)) (sym t);
-          checked =
-              subst (λ (x : List ℕ). Checked p s x v q) (sym t)
-              (checked-more (g .checked) v (stepped p s (drop at bytes) last (sym (a .answer)) .here) e);
+              stepped-to (got v (drop next bytes)) (a .answer) ∙ joined-before vs v (sumsOf p s (one-more .0) (drop next bytes) v);
+          checked = checked-more (g .checked) v (stepped p s (drop at bytes) last (sym (a .answer)) .here) e;
         }
 
-  -- At the end of the bytes the two tests decide.
+  -- At the end of the bytes the two values decide.
   module _ (h : length bytes ≤ at) where
-    all-read : sumsOf p s (length bytes) bytes 0 ≡ got (take k out) []
+    all-read : sumsOf p s (length bytes) bytes 0 ≡ got vs []
     all-read =
         g .whole
-        ∙ ap (joined (take k out)) (ap (λ (l : List ℕ). sumsOf p s (g .bound) l last) (drop-of-length-le bytes h) ∙ sums-none p s (g .bound) last)
-        ∙ ap (λ (l : List ℕ). got l []) (append-nil (take k out))
+        ∙ ap (joined vs) (ap (λ (l : List ℕ). sumsOf p s (g .bound) l last) (drop-of-length-le bytes h) ∙ sums-none p s (g .bound) last)
+        ∙ ap (λ (l : List ℕ). got l []) (append-nil vs)
 
-    decode-is : (t : Bool) → allValid p s (take k out) ≡ t → decodeOf p s bytes ≡ cond t (got (take k out) []) (refused 20)
+    pub going-end : (t : Bool) → endsValid p s plain last ≡ t → decodeOf p s bytes ≡ cond t (got vs []) (refused 20)
     unfolding decodeOf
-    decode-is t e =
-        ap (λ (x : Read (List ℕ)). andThen x (asked p s)) all-read ∙ ap (λ (x : Bool). cond x (got (take k out) []) (refused 20)) e
+    going-end t e =
+        ap (λ (x : Read (List ℕ)). andThen x (asked p s)) all-read
+        ∙ ap (λ (x : Bool). cond x (got vs []) (refused 20)) (sym (g .checked .ends) ∙ e)
 
-    some-invalid : (allValid p s (take k out) ≡ true → ⊥) → Decodes (decodeOf p s bytes) (Refused 20) out
-    some-invalid f =
-        ⊎-elim (λ (e : allValid p s (take k out) ≡ true). absurd (f e))
-        (λ (e : allValid p s (take k out) ≡ false). subst (λ (x : Read (List ℕ)). Decodes x (Refused 20) out) (sym (decode-is false e)) refl)
-        (decided (allValid p s (take k out)))
+-- A list whose values are read into the first k cells.
+pub going-stored : {p s : ℕ} {bytes : List ℕ} {at last plain : ℕ} (out : List ℕ) (k v : ℕ) → k < length out
+    → Going p s bytes (take k out ++ (v ∷ [])) at last plain → Going p s bytes (take (k + 1) (set out k v)) at last plain
+going-stored {p} {s} {bytes} {at} {last} {plain} out k v h g =
+    subst (λ (l : List ℕ). Going p s bytes l at last plain)
+    (sym (ap (λ (n : ℕ). take n (set out k v)) (add-one k) ∙ take-suc-set out k v h)) g
 
-    pub going-plain : valid p s plain ≡ false → Decodes (decodeOf p s bytes) (Refused 20) out
-    going-plain e = some-invalid (λ (f : allValid p s (take k out) ≡ true). true≢false (sym (g .checked .each f .0) ∙ e))
+pub stored-stopped : {r : Read (List ℕ)} {n : ℕ} (out : List ℕ) → r ≡ refused n → Decodes r (Refused n) out
+stored-stopped {n = n} out e = subst (λ (x : Read (List ℕ)). Decodes x (Refused n) out) (sym e) refl
 
-    pub going-last : valid p s last ≡ false → Decodes (decodeOf p s bytes) (Refused 20) out
-    going-last e = some-invalid (λ (f : allValid p s (take k out) ≡ true). true≢false (sym (g .checked .each f .1) ∙ e))
-
-    pub going-end : k ≤ length out → valid p s plain ≡ true → valid p s last ≡ true → Decodes (decodeOf p s bytes) (Done k) out
-    going-end room e f =
-        subst (λ (x : Read (List ℕ)). Decodes x (Done k) out) (sym (decode-is true (g .checked .all e f)))
-        (ap Done (sym (length-take-le k out room)), ap (λ (n : ℕ). take n out) (length-take-le k out room))
+pub stored-end : {r : Read (List ℕ)} (out : List ℕ) (k : ℕ) → k ≤ length out → r ≡ got (take k out) [] → Decodes r (Done k) out
+stored-end out k h e =
+    subst (λ (x : Read (List ℕ)). Decodes x (Done k) out) (sym e)
+    (ap Done (sym (length-take-le k out h)), ap (λ (n : ℕ). take n out) (length-take-le k out h))
 
 -- ---- what an accepted list is
 
@@ -425,6 +420,7 @@ no-wrap last gap v h k e l = omega arith
 record Summed (l : List ℕ) (last : ℕ) (vs rest : List ℕ) : Type 0 where
   end : rest ≡ []
   rises : notBefore last vs ≡ true
+  some : 0 < length l → 0 < length vs
   fewer : length vs ≤ length l
   short : writtenFrom last vs ≤ length l
 
@@ -443,15 +439,16 @@ module _ {p s : ℕ} {l : List ℕ} {last v : ℕ} {rest : List ℕ} (h : last <
       record {
         end = r .end;
         rises = both (le-leb last v le) (r .rises);
+        some = λ h. omega arith;
         fewer = omega (arith, r .fewer, step-fewer);
         short =
             omega (arith, r .short, g .short, ap (λ (k : ℕ). length (varintBytes 5 k)) (no-wrap last (t .gap) v h (g .small) (t .sum) le));
       }
 
-before-got : (v : ℕ) (r : Read (List ℕ)) {vs rest : List ℕ} → before v r ≡ got vs rest → (ws : List ℕ) × (vs ≡ v ∷ ws) × (r ≡ got ws rest)
-before-got v (refused n) e = absurd (let z : _≡_ {A = ℕ} 0 1 = cc in omega arith)
-before-got v (got ws rest′) {vs} {rest} e =
-    let a : v ∷ ws ≡ vs = cc in
+joined-got : (l : List ℕ) (r : Read (List ℕ)) {vs rest : List ℕ} → joined l r ≡ got vs rest → (ws : List ℕ) × (vs ≡ l ++ ws) × (r ≡ got ws rest)
+joined-got l (refused n) e = absurd (let z : _≡_ {A = ℕ} 0 1 = cc in omega arith)
+joined-got l (got ws rest′) {vs} {rest} e =
+    let a : l ++ ws ≡ vs = cc in
     let b : rest′ ≡ rest = cc in
     (ws, sym a, ap (λ (x : List ℕ). got ws x) b)
 
@@ -462,7 +459,7 @@ module _ (p s : ℕ) where
       let f : got [] [] ≡ got vs rest = sym (sums-none p s n last) ∙ e in
       let a : [] ≡ vs = cc in
       let b : [] ≡ rest = cc in
-      subst (λ (x : List ℕ). Summed [] last x rest) a (record { end = sym b; rises = refl; fewer = omega arith; short = omega arith })
+      subst (λ (x : List ℕ). Summed [] last x rest) a (record { end = sym b; rises = refl; some = λ z. z; fewer = omega arith; short = omega arith })
   summed-none n (b ∷ l) last h e = absurd (let z : ⊥ = omega arith in z)
 
   summed : (n : ℕ) (l : List ℕ) (last : ℕ) (vs rest : List ℕ) → length l ≤ n → last < 2 ^ 32 → sumsOf p s n l last ≡ got vs rest → Summed l last vs rest
@@ -475,16 +472,20 @@ module _ (p s : ℕ) where
           → (r : Read ℕ) → stepOf p s l last ≡ r → andThen r (sumsFrom p s n) ≡ got vs rest → Summed l last vs rest
       go ih (refused j) f g = absurd (let z : _≡_ {A = ℕ} 0 1 = cc in omega arith)
       go ih (got v more) f g =
-          let b = before-got v (sumsOf p s n more v) g in
+          let r = sumsOf p s n more v in
+          let b = joined-got (v ∷ []) r (sym (joined-none (before v r) ∙ joined-before [] v r) ∙ g) in
           let t = stepped p s l last f in
           subst (λ (x : List ℕ). Summed l last x rest) (sym (b .1))
           (summed-more k t (ih more v (b .0) rest (omega (arith, step-fewer k t)) (step-lt k t) (b .2)))
 
--- What a list that is accepted is: read to its end, never descending, every value valid, and no longer when it is written than it was.
+-- What a list that is accepted is: read to its end, never descending, every value valid, of a value or more where it has bytes, and no longer when it
+-- is written than it was.
 pub record Accepted (p s : ℕ) (l vs rest : List ℕ) : Type 0 where
+  pub sums : sumsOf p s (length l) l 0 ≡ got vs rest
   pub end : rest ≡ []
   pub rises : ascends vs ≡ true
   pub all : allValid p s vs ≡ true
+  pub some : 0 < length l → 0 < length vs
   pub fewer : length vs ≤ length l
   pub short : written vs ≤ length l
 
@@ -501,8 +502,39 @@ accepted p s l {vs} {rest} e = go (sumsOf p s (length l) l 0) refl e
         pick true h k =
             let a : ws ≡ vs = cc in
             let b : end ≡ rest = cc in
-            let m = summed p s (length l) l 0 vs rest (omega arith) (omega arith) (f ∙ ap₂ (λ (x y : List ℕ). got x y) a b) in
-            record { end = m .end; rises = m .rises; all = subst (λ (x : List ℕ). allValid p s x ≡ true) a h; fewer = m .fewer; short = m .short }
+            let sums = f ∙ ap₂ (λ (x y : List ℕ). got x y) a b in
+            let m = summed p s (length l) l 0 vs rest (omega arith) (omega arith) sums in
+            record {
+              sums = sums;
+              end = m .end;
+              rises = m .rises;
+              all = subst (λ (x : List ℕ). allValid p s x ≡ true) a h;
+              some = m .some;
+              fewer = m .fewer;
+              short = m .short;
+            }
+
+-- A walk over a list that is accepted: it is not stopped, its values so far are the list's first ones, each is valid, and at the end they are all.
+module _ {p s : ℕ} {bytes vs : List ℕ} {at last plain : ℕ} {all rest : List ℕ} (e : decodeOf p s bytes ≡ got all rest) (g : Going p s bytes vs at last plain) where
+  pub going-front : (more : List ℕ) × (all ≡ vs ++ more)
+  going-front = let j = joined-got vs (sumsOf p s (g .bound) (drop at bytes) last) (sym (g .whole) ∙ accepted p s bytes e .sums) in (j .0, j .1)
+
+  pub going-valid : allValid p s vs ≡ true
+  going-valid =
+      let f = going-front in
+      both-true (allValid p s vs) (allValid p s (f .0))
+      (sym (ap (allValid p s) (f .1) ∙ all-append p s vs (f .0)) ∙ accepted p s bytes e .all) .0
+
+  pub going-whole : length bytes ≤ at → all ≡ vs
+  going-whole h = let f : got all rest ≡ got vs [] = sym (accepted p s bytes e .sums) ∙ all-read g h in cc
+
+  pub going-unstopped : at < length bytes → (r : Step) → NoStep r → NextValuePost p s bytes at last r → ⊥
+  going-unstopped h r j a = let f = going-stopped g h r (stepRefusal r) j a refl in absurd (let z : _≡_ {A = ℕ} 0 1 = cc in omega arith)
+
+pub going-value : {p s : ℕ} {bytes vs : List ℕ} {at last plain : ℕ} {all rest : List ℕ} {v next : ℕ} → decodeOf p s bytes ≡ got all rest
+    → Going p s bytes vs at last plain → at < length bytes → NextValuePost p s bytes at last (Next v next) → valid p s v ≡ true
+going-value {p} {s} {vs = vs} {v = v} e g h a =
+    both-true (allValid p s vs) (valid p s v) (sym (all-more p s vs v) ∙ going-valid e (going-next g h a refl)) .1
 
 -- No bytes are a list of no values, whatever the precisions are.
 pub decode-none : (p s : ℕ) → decodeOf p s [] ≡ got [] []

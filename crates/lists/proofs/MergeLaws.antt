@@ -18,6 +18,7 @@ use Rattle.lists.specs.Values.{markBit, mark, marked, valid}
 use Rattle.lists.specs.Sorting.{ascends, insert, sortOf}
 use Rattle.lists.specs.Order.{Ascending, Rising, lastOf}
 use Rattle.lists.specs.Lists.{allValid, encodeFrom, encodeList, writtenFrom, written, slot, sameSlotFirst, lastOfSlots, merged, distinctSlots}
+use Rattle.lists.proofs.DecodingLaws.{all-append}
 use Rattle.lists.proofs.OrderLaws.{insert-least, least-below, least-mem, ascending-least, order, ascending, ascends-of, ascending-lower, ascends-sort, put-first, put-later, sort-of-ascends, sort-perm, sort-swap, perm-sort, mem-perm, length-sort}
 
 -- ---- marks
@@ -282,10 +283,7 @@ unfolding allValid
 none-valid p s = refl
 
 pub valid-append : (p s : ℕ) (a b : List ℕ) → allValid p s a ≡ true → allValid p s b ≡ true → allValid p s (a ++ b) ≡ true
-valid-append p s a b f g =
-    mem-valid p s (a ++ b)
-    (λ (v : ℕ) (m : List·Memᴰ v (a ++ b)).
-    ⊎-elim (λ (i : List·Memᴰ v a). valid-mem p s v a f i) (λ (i : List·Memᴰ v b). valid-mem p s v b g i) (List·Memᴰ·append-cases a m))
+valid-append p s a b f g = all-append p s a b ∙ both f g
 
 -- Whether values are valid does not depend on their order.
 pub valid-perm : (p s : ℕ) {a b : List ℕ} → List·Permᴰ a b → allValid p s b ≡ true → allValid p s a ≡ true
