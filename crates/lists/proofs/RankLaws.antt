@@ -15,7 +15,7 @@ use Rattle.wire.proofs.VarintLaws.{side}
 use Rattle.lists.proofs.ValueLaws.{decided, register-marked, rank-marked, lowered-register, register-zero, lowered-none, lowered-register-none, lowered-register-twice, lowered-register-mono, lowered-register-le, lowered-le, register-lt, rank-le}
 use Rattle.lists.proofs.MergeLaws.{mark-groups, marked-group, slot-plain, slot-marked, merged-from, merged-has, valid-mem}
 use Rattle.lists.specs.Lists.{slot, merged, allValid}
-use Rattle.lists.specs.Values.{Pair, mark, marked, register, rank, loweredRank, loweredRegister}
+use Rattle.lists.specs.Values.{Pair, mark, marked, register, rank, largestRank, loweredRank, loweredRegister}
 use Rattle.lists.specs.Registers.{zeros, raise, rankAt, rankAtLower, raisedBy, raisedLower, larger, loweredAt, tabulate, lowered, largest}
 
 -- ---- the larger of numbers
@@ -702,7 +702,7 @@ valid-inside p s l pair ok v m = register-lt p s v pair (valid-mem p s v l ok m)
 pub valid-inside-lower : (p s d q : ℕ) (l : List ℕ) → p ≡ q + d → Pair p s → allValid p s l ≡ true → (v : ℕ) → List·Memᴰ v l → register p s v / 2 ^ d < 2 ^ q
 valid-inside-lower p s d q l e pair ok v m = shr-lt q d (subst (λ (n : ℕ). register p s v < 2 ^ n) e (valid-inside p s l pair ok v m))
 
-pub valid-ranks : (p s : ℕ) (l : List ℕ) → Pair p s → allValid p s l ≡ true → (v : ℕ) → List·Memᴰ v l → rank p s v ≤ 88 - p
+pub valid-ranks : (p s : ℕ) (l : List ℕ) → Pair p s → allValid p s l ≡ true → (v : ℕ) → List·Memᴰ v l → rank p s v ≤ largestRank p
 valid-ranks p s l pair ok v m = rank-le p s v pair (valid-mem p s v l ok m)
 
 -- ---- whole rows of registers
