@@ -20,8 +20,8 @@ use Rattle.lists.proofs.OrderLaws.{ascending}
 use Rattle.lists.proofs.SortingLaws.{last-take}
 
 -- One test more was made.
-pub one-more : (all next ok rest : Bool) → next ≡ (all && ok) → (all && (ok && rest)) ≡ (next && rest)
-one-more all next ok rest e = sym (and-assoc all ok rest) ∙ ap (λ (t : Bool). t && rest) (sym e)
+pub test-more : (all next ok rest : Bool) → next ≡ (all && ok) → (all && (ok && rest)) ≡ (next && rest)
+test-more all next ok rest e = sym (and-assoc all ok rest) ∙ ap (λ (t : Bool). t && rest) (sym e)
 
 -- ---- every value is valid
 
@@ -34,7 +34,7 @@ module _ (p s : ℕ) (l : List ℕ) (i : ℕ) (all : Bool) where
       → (all && allValid p s (drop i l)) ≡ (next && allValid p s (drop (i + 1) l))
   valid-turn next ok h e f =
       ap (λ (t : Bool). all && t) (valid-step h)
-      ∙ one-more all next (valid p s (getD l i 0)) (allValid p s (drop (i + 1) l)) (f ∙ ap (λ (t : Bool). all && t) e)
+      ∙ test-more all next (valid p s (getD l i 0)) (allValid p s (drop (i + 1) l)) (f ∙ ap (λ (t : Bool). all && t) e)
 
   pub valid-end : length l ≤ i → (all && allValid p s (drop i l)) ≡ all
   unfolding allValid
@@ -56,7 +56,7 @@ module _ (l : List ℕ) (i : ℕ) (all : Bool) where
       → (all && notBefore (getD l (i - 1) 0) (drop i l)) ≡ (next && notBefore (getD l (i + 1 - 1) 0) (drop (i + 1) l))
   rising-turn next h e =
       ap (λ (t : Bool). all && t) (rising-step (getD l (i - 1) 0) h)
-      ∙ one-more all next (leb (getD l (i - 1) 0) (getD l i 0)) (notBefore (getD l i 0) (drop (i + 1) l)) e
+      ∙ test-more all next (leb (getD l (i - 1) 0) (getD l i 0)) (notBefore (getD l i 0) (drop (i + 1) l)) e
       ∙ ap (λ (n : ℕ). next && notBefore (getD l n 0) (drop (i + 1) l)) (let f : i ≡ i + 1 - 1 = omega arith in f)
 
   pub rising-end : length l ≤ i → (all && notBefore (getD l (i - 1) 0) (drop i l)) ≡ all

@@ -417,7 +417,7 @@ no-wrap : (last gap v : ℕ) → last < 2 ^ 32 → gap < 2 ^ 32 → v ≡ (last 
 no-wrap last gap v h k e l = omega arith
 
 -- What the values of bytes after the value `last` are.
-record Summed (l : List ℕ) (last : ℕ) (vs rest : List ℕ) : Type 0 where
+record ValuesAfter (l : List ℕ) (last : ℕ) (vs rest : List ℕ) : Type 0 where
   end : rest ≡ []
   rises : notBefore last vs ≡ true
   some : 0 < length l → 0 < length vs
@@ -431,9 +431,9 @@ module _ {p s : ℕ} {l : List ℕ} {last v : ℕ} {rest : List ℕ} (h : last <
   step-fewer : length rest < length l
   step-fewer = omega (arith, gapped l (t .bytes) .short, len-pos 4 (t .gap))
 
-  summed-more : {ws end : List ℕ} → Summed rest v ws end → Summed l last (v ∷ ws) end
+  values-more : {ws end : List ℕ} → ValuesAfter rest v ws end → ValuesAfter l last (v ∷ ws) end
   unfolding writtenFrom
-  summed-more r =
+  values-more r =
       let g = gapped l (t .bytes) in
       let le = not-less p s last v (t .here) in
       record {
@@ -453,30 +453,30 @@ joined-got l (got ws rest′) {vs} {rest} e =
     (ws, sym a, ap (λ (x : List ℕ). got ws x) b)
 
 module _ (p s : ℕ) where
-  summed-none : (n : ℕ) (l : List ℕ) (last : ℕ) {vs rest : List ℕ} → length l ≡ 0 → sumsOf p s n l last ≡ got vs rest → Summed l last vs rest
+  values-none : (n : ℕ) (l : List ℕ) (last : ℕ) {vs rest : List ℕ} → length l ≡ 0 → sumsOf p s n l last ≡ got vs rest → ValuesAfter l last vs rest
   unfolding writtenFrom
-  summed-none n [] last {vs} {rest} h e =
+  values-none n [] last {vs} {rest} h e =
       let f : got [] [] ≡ got vs rest = sym (sums-none p s n last) ∙ e in
       let a : [] ≡ vs = cc in
       let b : [] ≡ rest = cc in
-      subst (λ (x : List ℕ). Summed [] last x rest) a (record { end = sym b; rises = refl; some = λ z. z; fewer = omega arith; short = omega arith })
-  summed-none n (b ∷ l) last h e = absurd (let z : ⊥ = omega arith in z)
+      subst (λ (x : List ℕ). ValuesAfter [] last x rest) a (record { end = sym b; rises = refl; some = λ z. z; fewer = omega arith; short = omega arith })
+  values-none n (b ∷ l) last h e = absurd (let z : ⊥ = omega arith in z)
 
-  summed : (n : ℕ) (l : List ℕ) (last : ℕ) (vs rest : List ℕ) → length l ≤ n → last < 2 ^ 32 → sumsOf p s n l last ≡ got vs rest → Summed l last vs rest
-  summed zero l last vs rest h k e = summed-none zero l last (omega arith) e
-  summed (suc n) l last vs rest h k e =
-      ⊎-elim (λ (z : length l < 1). summed-none (suc n) l last (omega arith) e)
-      (λ (z : 1 ≤ length l). go (summed n) (stepOf p s l last) refl (sym (sums-step p s n last l z) ∙ e)) (side (length l) 1)
+  values-after : (n : ℕ) (l : List ℕ) (last : ℕ) (vs rest : List ℕ) → length l ≤ n → last < 2 ^ 32 → sumsOf p s n l last ≡ got vs rest → ValuesAfter l last vs rest
+  values-after zero l last vs rest h k e = values-none zero l last (omega arith) e
+  values-after (suc n) l last vs rest h k e =
+      ⊎-elim (λ (z : length l < 1). values-none (suc n) l last (omega arith) e)
+      (λ (z : 1 ≤ length l). go (values-after n) (stepOf p s l last) refl (sym (sums-step p s n last l z) ∙ e)) (side (length l) 1)
     where
-      go : ((l : List ℕ) (last : ℕ) (vs rest : List ℕ) → length l ≤ n → last < 2 ^ 32 → sumsOf p s n l last ≡ got vs rest → Summed l last vs rest)
-          → (r : Read ℕ) → stepOf p s l last ≡ r → andThen r (sumsFrom p s n) ≡ got vs rest → Summed l last vs rest
+      go : ((l : List ℕ) (last : ℕ) (vs rest : List ℕ) → length l ≤ n → last < 2 ^ 32 → sumsOf p s n l last ≡ got vs rest → ValuesAfter l last vs rest)
+          → (r : Read ℕ) → stepOf p s l last ≡ r → andThen r (sumsFrom p s n) ≡ got vs rest → ValuesAfter l last vs rest
       go ih (refused j) f g = absurd (let z : _≡_ {A = ℕ} 0 1 = cc in omega arith)
       go ih (got v more) f g =
           let r = sumsOf p s n more v in
           let b = joined-got (v ∷ []) r (sym (joined-none (before v r) ∙ joined-before [] v r) ∙ g) in
           let t = stepped p s l last f in
-          subst (λ (x : List ℕ). Summed l last x rest) (sym (b .1))
-          (summed-more k t (ih more v (b .0) rest (omega (arith, step-fewer k t)) (step-lt k t) (b .2)))
+          subst (λ (x : List ℕ). ValuesAfter l last x rest) (sym (b .1))
+          (values-more k t (ih more v (b .0) rest (omega (arith, step-fewer k t)) (step-lt k t) (b .2)))
 
 -- What a list that is accepted is: read to its end, never descending, every value valid, of a value or more where it has bytes, and no longer when it
 -- is written than it was.
@@ -503,7 +503,7 @@ accepted p s l {vs} {rest} e = go (sumsOf p s (length l) l 0) refl e
             let a : ws ≡ vs = cc in
             let b : end ≡ rest = cc in
             let sums = f ∙ ap₂ (λ (x y : List ℕ). got x y) a b in
-            let m = summed p s (length l) l 0 vs rest (omega arith) (omega arith) sums in
+            let m = values-after p s (length l) l 0 vs rest (omega arith) (omega arith) sums in
             record {
               sums = sums;
               end = m .end;

@@ -295,15 +295,15 @@ cleared-all p regs = ap (λ (n : ℕ). replicate n 0) (let e : 2 ^ p - 0 ≡ 2 ^
 
 -- ---- counting and the largest
 
-pub record Counting (regs : List ℕ) (count i : ℕ) : Type 0 where
+pub record CountingNotZero (regs : List ℕ) (count i : ℕ) : Type 0 where
   pub few : count ≤ i
   pub sum : count + notZero (drop i regs) ≡ notZero regs
 
-pub count-none : (regs : List ℕ) → Counting regs 0 0
+pub count-none : (regs : List ℕ) → CountingNotZero regs 0 0
 count-none regs = record { few = zero-le; sum = let e : 0 + notZero regs ≡ notZero regs = omega arith in e }
 
-pub count-turn : (regs : List ℕ) (count i x r : ℕ) → i < length regs → r ≡ getD regs i 0 → x ≡ cond (eqb r 0) 0 1 → x ≤ 1 → Counting regs count i
-    → Counting regs (count + x) (i + 1)
+pub count-turn : (regs : List ℕ) (count i x r : ℕ) → i < length regs → r ≡ getD regs i 0 → x ≡ cond (eqb r 0) 0 1 → x ≤ 1 → CountingNotZero regs count i
+    → CountingNotZero regs (count + x) (i + 1)
 unfolding notZero
 count-turn regs count i x r h e f l w =
     record {
@@ -325,7 +325,7 @@ count-turn regs count i x r h e f l w =
         let b : notZero (getD regs i 0 ∷ drop (suc i) regs) ≡ 1 + notZero (drop (suc i) regs) = rw (ne-eqb (getD regs i 0) 0 (λ (y : getD regs i 0 ≡ 0). n (e ∙ y))) refl in
         omega (arith, whole, a, b)
 
-pub count-end : (regs : List ℕ) (count i : ℕ) → length regs ≤ i → Counting regs count i → count ≡ notZero regs
+pub count-end : (regs : List ℕ) (count i : ℕ) → length regs ≤ i → CountingNotZero regs count i → count ≡ notZero regs
 unfolding notZero
 count-end regs count i h w =
     (let e : count ≡ count + 0 = omega arith in e) ∙ ap (λ (l : List ℕ). count + notZero l) (sym (drop-of-length-le regs h)) ∙ w .sum
