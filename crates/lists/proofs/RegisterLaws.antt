@@ -662,20 +662,21 @@ module _ (p d : ℕ) (before : List ℕ) (pre : LowerPre p d before) where
   -- Lowered, and the rest made zero.
   pub lower-whole : (after last : List ℕ)
       → after ≡ withRegisters p (lowered d (p - d) (registersOf p before) ++ drop (2 ^ (p - d)) (registersOf p before)) before
-      → last ≡ withRegisters p (clearedFrom p (2 ^ (p - d)) (registersOf p after)) after → last ≡ withRegisters p (loweredInPlace p d (registersOf p before)) before
+      → last ≡ withRegisters p (clearedFrom p (2 ^ (p - d)) (registersOf p after)) after
+      → last ≡ withRegisters p (loweredInPlace p (p - d) (registersOf p before)) before
   unfolding clearedFrom
   lower-whole after last e f =
+      let q = p - d in
+      let row = lowered d q (registersOf p before) in
+      let rest = drop (2 ^ q) (registersOf p before) in
+      let freed : List ℕ = replicate (2 ^ p - 2 ^ q) 0 in
       let size = lower-start .size in
       f
-      ∙ ap (λ (l : List ℕ). withRegisters p (take (2 ^ (p - d)) l ++ replicate (2 ^ p - 2 ^ (p - d)) 0) after)
-      (ap (registersOf p) e
-      ∙ of-with p before (pre .holds .room) (lowered d (p - d) (registersOf p before) ++ drop (2 ^ (p - d)) (registersOf p before)) size)
-      ∙ ap (λ (l : List ℕ). withRegisters p (l ++ replicate (2 ^ p - 2 ^ (p - d)) 0) after)
-      (take-at (lowered d (p - d) (registersOf p before)) (drop (2 ^ (p - d)) (registersOf p before)) (2 ^ (p - d))
-      (lowered-length d (p - d) (registersOf p before)))
-      ∙ ap (withRegisters p (loweredInPlace p d (registersOf p before))) e
-      ∙ with-with p before (pre .holds .room) (lowered d (p - d) (registersOf p before) ++ drop (2 ^ (p - d)) (registersOf p before)) size
-      (loweredInPlace p d (registersOf p before))
+      ∙ ap (λ (l : List ℕ). withRegisters p (take (2 ^ q) l ++ freed) after) (ap (registersOf p) e ∙ of-with p before (pre .holds .room) (row ++ rest) size)
+      ∙ ap (λ (l : List ℕ). withRegisters p (l ++ freed) after) (take-at row rest (2 ^ q) (lowered-length d q (registersOf p before)))
+      ∙ ap (withRegisters p (row ++ freed)) e
+      ∙ with-with p before (pre .holds .room) (row ++ rest) size (row ++ freed)
+      ∙ ap (λ (b : ℕ). withRegisters p (lowered b q (registersOf p before) ++ freed) before) (let g : d ≡ p - (p - d) = omega (arith, pre .fewer) in g)
 
 -- ---- setting the values of a list
 

@@ -215,7 +215,7 @@ fn lower_blocks(registers: &mut [u8], p: u32, d: u32)
 // Registers of precision p become those of p - d, and the freed ones zero.
 pub fn lower_registers(registers: &mut [u8], p: u32, d: u32)
     requires { ⌜ LowerPre p d (now registers) ⌝ }
-    ensures { λ _. ⌜ now (registers .exit) ≡ withRegisters p (loweredInPlace p d (registersOf p (now (registers .entry)))) (now (registers .entry)) ⌝ }
+    ensures { λ _. ⌜ now (registers .exit) ≡ withRegisters p (loweredInPlace p (p - d) (registersOf p (now (registers .entry)))) (now (registers .entry)) ⌝ }
 {
     lower_blocks(registers, p, d);
     clear_from(registers, p, register_count(p - d));
