@@ -93,7 +93,6 @@ pub record NextValuePost (p s : ℕ) (bytes : List ℕ) (at last : ℕ) (r : Ste
   pub answer : nextValueMeans bytes r ≡ stepOf p s (drop at bytes) last
   pub inside : NextValueInside bytes at r
 
--- Every value is valid.
 unfoldable pub allValid : ℕ → ℕ → List ℕ → Bool
 allValid p s [] = true
 allValid p s (v ∷ l) = valid p s v && allValid p s l
@@ -102,8 +101,8 @@ allValid p s (v ∷ l) = valid p s v && allValid p s l
 unfoldable pub decodeOf : ℕ → ℕ → List ℕ → Read (List ℕ)
 decodeOf p s l = andThen (sumsOf p s (length l) l 0) (λ vs rest. cond (allValid p s vs) (got vs rest) (refused 20))
 
--- The last value with the mark bit clear, where v comes after `plain`; and whether that one and the last of all are valid. Of the values that were read of
--- a list these two decide for all.
+-- The last value with the mark bit clear, where v comes after `plain`; and whether that one and the last of all are valid: of the values of a
+-- list that was read these two decide for all.
 abbrev pub laterPlain : ℕ → ℕ → ℕ → ℕ → ℕ
 laterPlain p s plain v = cond (marked p s v) plain v
 

@@ -46,8 +46,8 @@ plainRank bits v = cond (eqb bits 0) (cond (eqb v 0) 1 (1 + leadingZeros 64 v)) 
 unfoldable pub rank : ℕ → ℕ → ℕ → ℕ
 rank p s v = cond (marked p s v) (markedRank v + (s - p)) (plainRank (s - p) v)
 
--- The largest rank of a valid value: "no register above 88−p". With s = p a plain value's is at most 64, and p is at most 24; any other's is at most
--- 65 - p. It grows by one with each bit that the precision is lowered, as a rank does at most.
+-- The largest rank that a valid value may have: "no register above 88−p". With s = p a plain value's rank is up to 64, and p is up to 24; every
+-- other rank is at most 65 - p. Lowering by d bits adds at most d to a rank, and d to this.
 abbrev pub largestRank : ℕ → ℕ
 largestRank p = 88 - p
 
