@@ -68,18 +68,12 @@ module _ (p other : ℕ) (registers : List ℕ) (pre : LowerOwnPre p registers) 
         small = omega (arith, pre .small, pre .high);
       }
 
-  pub own-lowered : (after : List ℕ) → other < p → after ≡ withRegisters p (loweredInPlace p (p - other) (registersOf p registers)) registers
+  pub own-lowered : (after : List ℕ) → other < p → after ≡ withRegisters p (loweredInPlace p (p - (p - other)) (registersOf p registers)) registers
       → LowerOwnPost p other registers other after
   own-lowered after h e =
       let f : min p other ≡ other = min-eq-right (let g : other ≤ p = omega arith in g) in
       let back : p - (p - other) ≡ min p other = (let g : p - (p - other) ≡ other = omega arith in g) ∙ sym f in
-      let d : p - other ≡ p - min p other = ap (λ (n : ℕ). p - n) (sym f) in
-      record {
-        smaller = sym f;
-        left =
-            e
-            ∙ ap₂ (λ (b q : ℕ). withRegisters p (lowered b q (registersOf p registers) ++ replicate (2 ^ p - 2 ^ q) 0) registers) d back;
-      }
+      record { smaller = sym f; left = e ∙ ap (λ (q : ℕ). withRegisters p (loweredInPlace p q (registersOf p registers)) registers) back }
 
 -- ---- a state's data
 
