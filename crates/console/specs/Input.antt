@@ -99,7 +99,12 @@ hexOf [] = some []
 hexOf (a ∷ []) = none
 hexOf (a ∷ b ∷ l) = byteThen (digitOf a) (digitOf b) (hexOf l)
 
--- The bytes stand at the front, and the rest is as it was; or the word is no byte string, or one too long for the buffer.
+-- At most the first n cells have changed: those past them are as they were, and there are as many as before.
+abbrev pub FrontOnly : ℕ → List ℕ → List ℕ → Type 0
+FrontOnly n before after = (drop n after ≡ drop n before) × (length after ≡ length before)
+
+-- The bytes stand at the front, and the rest is as it was. Or the word is no byte string: as many cells as it has pairs of digits are free, and hold anything.
+-- Or it is one too long for the buffer, which is as it was.
 abbrev pub BytesPost : List ℕ → List ℕ → Bytes → List ℕ → Type 0
-BytesPost word out (Count n) after = (hexOf word ≡ some (take n after)) × (drop n after ≡ drop n out) × Counts n after
-BytesPost word out BytesOther after = (hexOf word ≡ none) ⊎ (length out < length word / 2)
+BytesPost word out (Count n) after = (hexOf word ≡ some (take n after)) × FrontOnly n out after × Counts n after
+BytesPost word out BytesOther after = ((hexOf word ≡ none) × FrontOnly (length word / 2) out after) ⊎ ((length out < length word / 2) × (after ≡ out))
