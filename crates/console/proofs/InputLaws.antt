@@ -199,12 +199,11 @@ drop-next out before i x e = drop-set-lt (i + 1) out i x (omega arith) ∙ drop-
 -- What a word that is refused leaves, where i cells were put for at least two bytes each.
 pub refused-free : (word out before : List ℕ) (i : ℕ) → 2 * i ≤ length word → drop i out ≡ drop i before → length out ≡ length before
     → FrontOnly (length word / 2) before out
-refused-free word out before i h e same =
-    (
-      subst (λ (n : ℕ). drop n out ≡ drop n before) (let n : i + (length word / 2 - i) ≡ length word / 2 = omega arith in n)
+refused-free word out before i h e same = (
+  subst (λ (n : ℕ). drop n out ≡ drop n before) (let n : i + (length word / 2 - i) ≡ length word / 2 = omega arith in n)
       (drop-further out before i (length word / 2 - i) e),
-      same,
-    )
+  same,
+)
 
 -- All pairs are read.
 pub hex-done : (word before out : List ℕ) (i n : ℕ)

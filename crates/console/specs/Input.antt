@@ -34,6 +34,15 @@ readingOf n (pos k) len = cond (ltb (n + k) len) (soFar k n) (Done Full)
 abbrev pub ArrivedIn : List ℕ → Arrived → Type 0
 ArrivedIn buf r = readingOf (r .before) (r .got) (length buf) ≡ Done (r .stream)
 
+-- What `read_all` answers and leaves. What is free is named in `free`: the buffer holds anything, and as many bytes as before.
+pub record ReadPost (buf : List ℕ) (r : Arrived) (after : List ℕ) : Type 0 where
+  pub arrived : ArrivedIn after r
+  pub free : length after ≡ length buf
+
+-- A count of bytes at the front of the buffer, which is free as `read_all` leaves it.
+abbrev pub CasesPost : List ℕ → ℕ → List ℕ → Type 0
+CasesPost buf n after = Counts n after × (length after ≡ length buf)
+
 -- Of a whole stream, that it is shorter than the buffer: one that fills it never passes as whole. Which bytes came, and which of the three it is, nothing can say.
 abbrev pub StreamPost : List ℕ → Stream → Type 0
 StreamPost buf (All n) = (n < length buf) × Counts n buf
