@@ -522,13 +522,11 @@ module _ (a : Accumulator) (st : State) (x : JudgedFacts a st) (h : 0 < length (
 
 -- ---- 17
 
--- The precision that is wanted is the same whatever the bytes are.
-pub wanted-high : (a : Accumulator) (m : Mem) (bytes : List ℕ) (f : Fields) → RoomPre a m (stateOf bytes f)
-    → (s : List ℕ) → wantedPrecision (a .form) a (stateOf s f .hll .precision) ≤ 24
-wanted-high a m bytes f x s = by-form (a .form) refl
+pub wanted-high : (a : Accumulator) (m : Mem) (st : State) → RoomPre a m st → wantedPrecision (a .form) a (st .hll .precision) ≤ 24
+wanted-high a m st x = by-form (a .form) refl
   where
-    by-form : (g : Form) → a .form ≡ g → wantedPrecision g a (stateOf s f .hll .precision) ≤ 24
-    by-form Unstarted e = judged-facts a (stateOf bytes f) (x .judged) .high
+    by-form : (g : Form) → a .form ≡ g → wantedPrecision g a (st .hll .precision) ≤ 24
+    by-form Unstarted e = judged-facts a st (x .judged) .high
     by-form Sparse e = fit-sparse a m (x .fit) e .pair .high
     by-form Dense e = fit-dense a m (x .fit) e .high
 
@@ -536,20 +534,20 @@ pub wanted-small : (a : Accumulator) (m : Mem) (st : State) → RoomPre a m st �
 wanted-small a m st x = let h = fit-short (a .form) a m refl (x .fit) in let k = x .short in omega arith
 
 -- The code's four tests.
-module _ (a : Accumulator) (m : Mem) (room : ℕ) (st : State) (r : ℕ) (e : r ≡ wantedRegisters a st) where
+module _ (a : Accumulator) (m : Mem) (room : ℕ) (st : State) (r : ℕ) (e : r ≡ wantedRegisters a (st .hll .precision)) where
   pub registers-no : length (m .registers) < r → false ≡ hasRoom a m room st
   unfolding hasRoom
   registers-no h =
       let w = wantedCells a (length (listOf st)) in
       sym (ap (λ (b : Bool). b && leb w (length (m .sparse)) && leb w (length (m .pending)) && leb w room)
-      (lt-leb (wantedRegisters a st) (length (m .registers)) (subst (λ (n : ℕ). length (m .registers) < n) e h)))
+      (lt-leb (wantedRegisters a (st .hll .precision)) (length (m .registers)) (subst (λ (n : ℕ). length (m .registers) < n) e h)))
 
   pub registers-yes : r ≤ length (m .registers) → (w : ℕ) → w ≡ wantedCells a (length (listOf st))
       → hasRoom a m room st ≡ (leb w (length (m .sparse)) && leb w (length (m .pending)) && leb w room)
   unfolding hasRoom
   registers-yes h w f =
       ap₂ (λ (b : Bool) (n : ℕ). b && leb n (length (m .sparse)) && leb n (length (m .pending)) && leb n room)
-      (le-leb (wantedRegisters a st) (length (m .registers)) (subst (λ (n : ℕ). n ≤ length (m .registers)) e h)) (sym f)
+      (le-leb (wantedRegisters a (st .hll .precision)) (length (m .registers)) (subst (λ (n : ℕ). n ≤ length (m .registers)) e h)) (sym f)
 
 -- What 17 tells where its answer is yes: of the cells, for a list that is not empty.
 pub record Room (a : Accumulator) (m : Mem) (room : ℕ) (st : State) : Type 0 where
@@ -561,7 +559,7 @@ pub record Room (a : Accumulator) (m : Mem) (room : ℕ) (st : State) : Type 0 w
 pub room-facts : (a : Accumulator) (m : Mem) (room : ℕ) (st : State) → hasRoom a m room st ≡ true → Room a m room st
 unfolding hasRoom
 room-facts a m room st e =
-    let r = leb (wantedRegisters a st) (length (m .registers)) in
+    let r = leb (wantedRegisters a (st .hll .precision)) (length (m .registers)) in
     let w = wantedCells a (length (listOf st)) in
     let e3 = both-true (r && leb w (length (m .sparse)) && leb w (length (m .pending))) (leb w room) e .0 in
     let e2 = both-true (r && leb w (length (m .sparse))) (leb w (length (m .pending))) e3 .0 in

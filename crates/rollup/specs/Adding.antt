@@ -96,13 +96,14 @@ judgeAnswer a st = first (headerAnswer st) (matchAnswer a st)
 
 -- "17: Has register memory 2^p bytes (the roll-up's p, the state's if unstarted), and, where the sparse field is not empty, each u32 list kept +
 -- waiting + that field's byte length?"
+-- For what has precision p.
 abbrev pub wantedPrecision : Form → Accumulator → ℕ → ℕ
 wantedPrecision Unstarted a p = p
 wantedPrecision Sparse a p = a .precision
 wantedPrecision Dense a p = a .precision
 
-abbrev pub wantedRegisters : Accumulator → State → ℕ
-wantedRegisters a st = registerBytes (wantedPrecision (a .form) a (st .hll .precision))
+abbrev pub wantedRegisters : Accumulator → ℕ → ℕ
+wantedRegisters a p = registerBytes (wantedPrecision (a .form) a p)
 
 -- For a sparse field of n bytes.
 abbrev pub wantedCells : Accumulator → ℕ → ℕ
@@ -111,7 +112,7 @@ wantedCells a n = cond (eqb n 0) 0 (a .«sparse_len» + a .«pending_len» + n)
 unfoldable pub hasRoom : Accumulator → Mem → ℕ → State → Bool
 hasRoom a m room st =
     let cells = wantedCells a (length (listOf st)) in
-    leb (wantedRegisters a st) (length (m .registers))
+    leb (wantedRegisters a (st .hll .precision)) (length (m .registers))
     && leb cells (length (m .sparse))
     && leb cells (length (m .pending))
     && leb cells room

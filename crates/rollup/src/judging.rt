@@ -147,24 +147,23 @@ pub fn judge(a: Accumulator, bytes: &[u8]) -> Judged
 }
 
 // The precision whose registers 17 asks for.
-fn wanted_precision(a: Accumulator, f: Fields) -> u32
-    ensures { λ r. ⌜ ((s : List ℕ) → r ≡ wantedPrecision (a .form) a (stateOf s f .hll .precision)) ⌝ }
+fn wanted_precision(a: Accumulator, p: u32) -> u32
+    ensures { λ r. ⌜ r ≡ wantedPrecision (a .form) a p ⌝ }
 {
-    let h = f.hll;
     let form = a.form;
     match form {
-        Form::Unstarted => h.precision,
+        Form::Unstarted => p,
         Form::Sparse => a.precision,
         Form::Dense => a.precision,
     }
 }
 
-// 17: how many register bytes are wanted.
-pub fn wanted_registers(a: Accumulator, f: Fields) -> usize
-    requires { ⌜ ((s : List ℕ) → wantedPrecision (a .form) a (stateOf s f) ≤ 24) ⌝ }
-    ensures { λ r. ⌜ ((s : List ℕ) → r ≡ wantedRegisters a (stateOf s f)) ⌝ }
+// 17: how many register bytes are wanted, for what has precision p.
+pub fn wanted_registers(a: Accumulator, p: u32) -> usize
+    requires { ⌜ wantedPrecision (a .form) a p ≤ 24 ⌝ }
+    ensures { λ r. ⌜ r ≡ wantedRegisters a p ⌝ }
 {
-    registers::register_bytes(wanted_precision(a, f))
+    registers::register_bytes(wanted_precision(a, p))
 }
 
 // 17: how many cells of each list are wanted, for a sparse field of n bytes.
@@ -191,7 +190,8 @@ pub(crate) fn has_room(
     requires { ⌜ RoomPre a (mem (now registers) (now sparse) (now pending)) (stateOf (now bytes) f) ⌝ }
     ensures { λ r. ⌜ r ≡ hasRoom a (mem (now (registers .entry)) (now (sparse .entry)) (now (pending .entry))) (length (now (scratch .entry))) (stateOf (now (bytes .entry)) f) ⌝ }
 {
-    if registers.len() < wanted_registers(a, f) {
+    let h = f.hll;
+    if registers.len() < wanted_registers(a, h.precision) {
         return false;
     }
     let d = state::sparse_data(bytes, f);

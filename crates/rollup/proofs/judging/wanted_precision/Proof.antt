@@ -1,7 +1,6 @@
 -- The forms are those of the definition.
 use mathlib.Core.Path.{sym, ap}
 use borrow.Author.Needs.{needs}
-use Rattle.wire.specs.State.{stateOf}
 use Rattle.rollup.specs.declared.accumulator.Form.{Form}
 use Rattle.rollup.specs.Adding.{wantedPrecision}
 use Rattle.rollup.proofs.judging.wanted_precision.Statement.{statement}
@@ -18,18 +17,18 @@ enum-told-3 c = search needs
 
 returns : tie.Need-returns
 returns c =
-    let o = c .before .before .before in
-    λ s. sym (ap (λ (x : Form). wantedPrecision x (o .args .a) (stateOf s (o .args .f))) (c .enum-told .given .1))
+    let o = c .before .before in
+    sym (ap (λ (x : Form). wantedPrecision x (o .args .a) (o .args .p)) (c .enum-told .given .1))
 
 returns-2 : tie.Need-returns-2
 returns-2 c =
-    let o = c .before .before .before in
-    λ s. sym (ap (λ (x : Form). wantedPrecision x (o .args .a) (stateOf s (o .args .f))) (c .enum-told2 .given .1))
+    let o = c .before .before in
+    sym (ap (λ (x : Form). wantedPrecision x (o .args .a) (o .args .p)) (c .enum-told2 .given .1))
 
 returns-3 : tie.Need-returns-3
 returns-3 c =
-    let o = c .before .before .before in
-    λ s. sym (ap (λ (x : Form). wantedPrecision x (o .args .a) (stateOf s (o .args .f))) (c .enum-told3 .given .1))
+    let o = c .before .before in
+    sym (ap (λ (x : Form). wantedPrecision x (o .args .a) (o .args .p)) (c .enum-told3 .given .1))
 
 pub wanted-precision-spec : {M : Type 1} → statement M
 wanted-precision-spec =
