@@ -10,7 +10,7 @@ pub mod CutLaws
 pub mod WrittenLaws
 pub mod KeepsLaws
 pub mod ViewLaws
-pub mod KnowingLaws
+pub mod DistinctLaws
 pub mod WidthLaws
 pub mod SpaceLaws
 pub mod AgreementLaws
