@@ -13,6 +13,8 @@ pub mod ViewLaws
 pub mod DistinctLaws
 pub mod WidthLaws
 pub mod SpaceLaws
+pub mod SourceLaws
+pub mod CountLaws
 pub mod AgreementLaws
 pub mod FoldLaws
 pub mod Agreement

@@ -18,7 +18,7 @@ use Rattle.rollup.specs.declared.accumulator.Form.{Form}
 use Rattle.rollup.specs.declared.accumulator.Form.the-variants.{Unstarted, Sparse, Dense}
 use Rattle.rollup.specs.declared.accumulator.Accumulator.{Accumulator}
 use Rattle.rollup.specs.declared.incoming.Incoming.{Incoming}
-use Rattle.rollup.specs.Accumulator.{Mem, keptOf, waitingOf, limit, fits, HeadWidths}
+use Rattle.rollup.specs.Accumulator.{Mem, keptOf, waitingOf, limit, fits, fresh, HeadWidths}
 use Rattle.rollup.specs.Header.{dataOf, isEmpty}
 use Rattle.rollup.specs.Taking.{After, counted, startAfter, settle, waits, inserts, allMerged, sparseAfter, signedKey, denseAfter, takenAfter}
 use Rattle.rollup.specs.Adding.{stateNumbers}
@@ -131,7 +131,9 @@ steps-widths (adding {a = a} {m = m} room bytes r n steps post) fit w =
 steps-widths (writing room out r n after steps post) fit w = steps-widths steps fit w
 steps-widths (moving n steps post) fit w = steps-widths steps fit w
 
+pub fresh-widths : HeadWidths fresh
+fresh-widths = record { value-type = omega arith; count = omega arith; sparse-precision = omega arith; size = omega arith }
+
 -- So `WrittenReads` and `NoPrefixAccepted` speak of every run.
 pub run-widths : {first : Mem} {calls : List Call} {a : Accumulator} {m : Mem} → Run first calls a m → HeadWidths a
-run-widths {first = m} run =
-    steps-widths run (fresh-fits m) (record { value-type = omega arith; count = omega arith; sparse-precision = omega arith; size = omega arith })
+run-widths {first = m} run = steps-widths run (fresh-fits m) fresh-widths
