@@ -1,36 +1,35 @@
 -- Every path, every refusal and every write leaves what fits, where what it began with fits: after it question 1 is answered with yes again.
 use Prim.Native.Nat.{ℕ, suc, _+_, _-_, _*_, _/_, _^_, _<_, _≤_, min}
 use mathlib.Core.Path.{_≡_, refl, sym, ap, _∙_, subst}
-use mathlib.Core.Bool.{true, false, _&&_, not}
+use mathlib.Core.Bool.{true, false}
 use mathlib.Core.List.{List, [], _++_, List·Permᴰ, List·Permᴰ·nil, List·Permᴰ·cons, List·Permᴰ·swap, List·Permᴰ·trans, List·Memᴰ}
 use native.Mathlib.Nat.{max-le, min-le-left, min-le-right, pos-of-ne-zero}
 use native.Mathlib.Omega.{arith}
-use lib.Dec.{ltb, leb, eqb}
+use lib.Dec.{ltb, leb}
 use lib.ListN.{length, take, replicate, length-take, length-append, length-replicate}
 use lib.Seq.{length-take-le}
 use lib.Pow.{pow-mono}
 use borrow.Author.Tests.{leb-true, ltb-true, eqb-true, eqb-false}
-use Rattle.wire.proofs.BoolLaws.{both-true, either}
-use Rattle.wire.specs.State.{State}
+use Rattle.wire.proofs.BoolLaws.{both-true, either, whichever}
 use Rattle.lists.specs.Values.{Pair, register}
 use Rattle.lists.specs.Sorting.{ascends}
-use Rattle.lists.specs.Lists.{allValid, written, merged}
+use Rattle.lists.specs.Lists.{allValid, written}
 use Rattle.lists.specs.Registers.{registerBytes, registersOf, withRegisters, zeros, raisedBy, raisedLower, larger, lowered, largest}
 use Rattle.lists.proofs.MergeLaws.{none-valid, valid-append, valid-perm, merged-ascends, merged-valid}
-use Rattle.lists.proofs.DecodingLaws.{Accepted, accepted}
 use Rattle.lists.proofs.RankLaws.{zeros-raised, lower-length, larger-length, lowered-length, valid-inside, valid-inside-lower, valid-ranks, largest-zeros, largest-larger, largest-lowered, largest-raised, largest-raised-lower}
 use Rattle.lists.proofs.RegisterLaws.{with-length, with-room, of-with, of-front, fewer-bytes}
 use Rattle.rollup.specs.declared.accumulator.Form.{Form}
 use Rattle.rollup.specs.declared.accumulator.Form.the-variants.{Unstarted, Sparse, Dense}
 use Rattle.rollup.specs.declared.accumulator.Accumulator.{Accumulator}
-use Rattle.rollup.specs.Accumulator.{Mem, keptOf, waitingOf, limit, fits}
-use Rattle.rollup.specs.Header.{dataOf, listOf, isEmpty, maskOf}
-use Rattle.rollup.specs.Adding.{refuse, acceptedAfter, wantedPrecision, wantedCells, hasRoom, Ready, Shows}
+use Rattle.rollup.specs.declared.incoming.Incoming.{Incoming}
+use Rattle.rollup.specs.Accumulator.{Mem, mem, keptOf, waitingOf, limit, fits}
+use Rattle.rollup.specs.Header.{isEmpty}
+use Rattle.rollup.specs.Adding.{refuse, wantedPrecision, Shows}
+use Rattle.rollup.specs.Accepting.{TakePre}
 use Rattle.rollup.specs.declared.writing.Written.{Written}
 use Rattle.rollup.specs.Writing.{WritePost}
-use Rattle.rollup.specs.Taking.{After, listHead, denseHead, commonMask, sumCount, startAfter, settle, waits, listAfter, sparseAfter, signedMin, signedKey, raisedTo, denseAfter}
-use Rattle.rollup.proofs.FitLaws.{limit-small, FitSparse, FitDense, fit-none, fit-none-back, fit-sparse, fit-sparse-back, fit-dense, fit-dense-back}
-use Rattle.rollup.proofs.JudgeLaws.{JudgedFacts, judged-facts}
+use Rattle.rollup.specs.Taking.{After, unchanged, counted, densed, startList, startDense, startAfter, asList, settle, waits, inserts, listPath, allMerged, asWaiting, listAfter, rowTaken, sparseAfter, signedKey, raisedTo, denseAfter, takenAfter}
+use Rattle.rollup.proofs.FitLaws.{limit-small, NoLists, FitSparse, FitDense, fit-none, fit-none-back, fit-sparse, fit-sparse-back, fit-dense, fit-dense-back}
 use Rattle.rollup.proofs.WaysLaws.{start-ways, settle-ways, list-ways, sparse-ways}
 
 -- ---- values
@@ -47,7 +46,7 @@ in-list k l e = omega (arith, length-take k l)
 
 -- ---- a list head, and a dense one, that fit
 
--- What was both-true is looked at .0 with the head that was to be left.
+-- What was left is looked at with the head that was to be left.
 with-head : (x : After) (r : Accumulator) (n : Mem) → Shows x r n → (Shows x (x .head) n → fits (x .head) n ≡ true) → fits r n ≡ true
 with-head x r n sh f =
     ap (λ (h : Accumulator). fits h n) (sh .head)
@@ -59,81 +58,120 @@ with-head x r n sh f =
       waiting = subst (λ (h : Accumulator). List·Permᴰ (waitingOf h n) (x .waiting)) (sh .head) (sh .waiting);
     })
 
--- A list, kept in order, with values that wait.
-record GoodList (p s bytes : ℕ) (kept waiting : List ℕ) : Type 0 where
+-- A list, kept in order, with values that wait; and the numbers that a head has of them.
+record GoodList (p s len bytes waiting : ℕ) (kept unsorted : List ℕ) : Type 0 where
   pair : Pair p s
+  kept-count : len ≡ length kept
+  waiting-count : waiting ≡ length unsorted
   kept-valid : allValid p s kept ≡ true
-  waiting-valid : allValid p s waiting ≡ true
+  waiting-valid : allValid p s unsorted ≡ true
   order : ascends kept ≡ true
-  few : length waiting ≤ 2048
+  few : waiting ≤ 2048
   bytes-low : written kept ≤ bytes
   bytes-high : bytes ≤ 2147483647
-  wait : 0 < length waiting → bytes + 5 * length waiting < limit p
+  wait : 0 < waiting → bytes + 5 * waiting < limit p
 
-module _ (mask valueType count p s size bytes : ℕ) (regs kept waiting : List ℕ) (len waits : ℕ) (good : GoodList p s bytes kept waiting)
-    (lens : len ≡ length kept) (lenw : waits ≡ length waiting) where
-  abbrev listed : After
-  listed = record { head = listHead mask valueType count p s size len bytes waits; registers = regs; kept = kept; waiting = waiting }
+abbrev ListOf : Accumulator → (kept waiting : List ℕ) → Type 0
+ListOf h = GoodList (h .precision) (h .«sparse_precision») (h .«sparse_len») (h .«sparse_bytes») (h .«pending_len»)
 
-  list-fits : (r : Accumulator) (n : Mem) → Shows listed r n → fits r n ≡ true
-  list-fits r n sh =
-      with-head listed r n sh
-      (λ (x : Shows listed (listed .head) n).
-      let lw : length (take waits (n .pending)) ≡ length waiting = perm-length (x .waiting) in
-      fit-sparse-back (listed .head) n refl
-      (record {
-        pair = good .pair;
-        kept-in = in-list len (n .sparse) (ap length (x .kept) ∙ sym lens);
-        waiting-in = in-list waits (n .pending) (lw ∙ sym lenw);
-        kept-valid = ap (allValid p s) (x .kept) ∙ good .kept-valid;
-        waiting-valid = valid-perm p s (x .waiting) (good .waiting-valid);
-        order = ap ascends (x .kept) ∙ good .order;
-        few = subst (λ (k : ℕ). k ≤ 2048) (sym lenw) (good .few);
-        bytes-low = subst (λ (l : List ℕ). written l ≤ bytes) (sym (x .kept)) (good .bytes-low);
-        bytes-high = good .bytes-high;
-        wait = λ (h : 0 < waits).
-            let g : bytes + 5 * length waiting < limit p = good .wait (subst (λ (k : ℕ). 0 < k) lenw h) in
-            subst (λ (k : ℕ). bytes + 5 * k < limit p) (sym lenw) g;
-      }))
+-- Those of a head that fits, and a list without values that wait.
+fit-list : {a : Accumulator} {m : Mem} → FitSparse a m → ListOf a (keptOf a m) (waitingOf a m)
+fit-list {a} {m} x =
+    record {
+      pair = x .pair;
+      kept-count = sym (length-take-le (a .«sparse_len») (m .sparse) (x .kept-in));
+      waiting-count = sym (length-take-le (a .«pending_len») (m .pending) (x .waiting-in));
+      kept-valid = x .kept-valid;
+      waiting-valid = x .waiting-valid;
+      order = x .order;
+      few = x .few;
+      bytes-low = x .bytes-low;
+      bytes-high = x .bytes-high;
+      wait = x .wait;
+    }
 
--- Registers of 2^q in front of the bytes.
-module _ (mask valueType count q s size kept : ℕ) (regs : List ℕ) (low : 4 ≤ q) (high : q ≤ 24) (pos : 0 < s) (room : registerBytes q ≤ length regs)
-    (small : largest (registersOf q regs) ≤ 88 - q) where
-  abbrev densed : After
-  densed = record { head = denseHead mask valueType count q s size kept; registers = regs; kept = []; waiting = [] }
+alone : {p s bytes : ℕ} {l : List ℕ} → Pair p s → allValid p s l ≡ true → ascends l ≡ true → written l ≤ bytes → bytes ≤ 2147483647
+    → GoodList p s (length l) bytes 0 l []
+alone {p} {s} pair ok o low high =
+    record {
+      pair = pair;
+      kept-count = refl;
+      waiting-count = refl;
+      kept-valid = ok;
+      waiting-valid = none-valid p s;
+      order = o;
+      few = omega arith;
+      bytes-low = low;
+      bytes-high = high;
+      wait = λ (h : 0 < 0). absurd (let z : ⊥ = omega arith in z);
+    }
 
-  dense-fits : (r : Accumulator) (n : Mem) → Shows densed r n → fits r n ≡ true
-  dense-fits r n sh =
-      with-head densed r n sh
-      (λ (x : Shows densed (densed .head) n).
-      fit-dense-back (densed .head) n refl
+list-fits : (x : After) → x .head .form ≡ Sparse → ListOf (x .head) (x .kept) (x .waiting) → (r : Accumulator) (n : Mem) → Shows x r n → fits r n ≡ true
+list-fits x form good r n sh =
+    let h = x .head in
+    with-head x r n sh
+    (λ (t : Shows x (x .head) n).
+    fit-sparse-back h n form
+    (record {
+      pair = good .pair;
+      kept-in = in-list (h .«sparse_len») (n .sparse) (ap length (t .kept) ∙ sym (good .kept-count));
+      waiting-in = in-list (h .«pending_len») (n .pending) (perm-length (t .waiting) ∙ sym (good .waiting-count));
+      kept-valid = ap (allValid (h .precision) (h .«sparse_precision»)) (t .kept) ∙ good .kept-valid;
+      waiting-valid = valid-perm (h .precision) (h .«sparse_precision») (t .waiting) (good .waiting-valid);
+      order = ap ascends (t .kept) ∙ good .order;
+      few = good .few;
+      bytes-low = subst (λ (l : List ℕ). written l ≤ h .«sparse_bytes») (sym (t .kept)) (good .bytes-low);
+      bytes-high = good .bytes-high;
+      wait = good .wait;
+    }))
+
+-- Of the memory the registers count alone.
+dense-fits : (x : After) (m : Mem) → x .registers ≡ m .registers → x .head .form ≡ Dense → FitDense (x .head) m → (r : Accumulator) (n : Mem) → Shows x r n
+    → fits r n ≡ true
+dense-fits x m same form fit r n sh =
+    let p = x .head .precision in
+    with-head x r n sh
+    (λ (t : Shows x (x .head) n).
+    let e : m .registers ≡ n .registers = sym (t .registers ∙ same) in
+    fit-dense-back (x .head) n form
+    (record {
+      low = fit .low;
+      high = fit .high;
+      sparse = fit .sparse;
+      none = fit .none;
+      room = subst (λ (l : List ℕ). registerBytes p ≤ length l) e (fit .room);
+      small = subst (λ (l : List ℕ). largest (registersOf p l) ≤ 88 - p) e (fit .small);
+    }))
+
+-- A row of registers that was put in front of bytes.
+module _ (h : Accumulator) (none : NoLists h) (form : h .form ≡ Dense) (low : 4 ≤ h .precision) (high : h .precision ≤ 24) (pos : 0 < h .«sparse_precision»)
+    (bytes : List ℕ) (room : registerBytes (h .precision) ≤ length bytes) (row : List ℕ) (long : length row ≡ 2 ^ h .precision)
+    (small : largest row ≤ 88 - h .precision) where
+  row-fits : (r : Accumulator) (n : Mem) → Shows (record { head = h; registers = withRegisters (h .precision) row bytes; kept = []; waiting = [] }) r n
+      → fits r n ≡ true
+  row-fits =
+      let p = h .precision in
+      let registers = withRegisters p row bytes in
+      dense-fits (record { head = h; registers = registers; kept = []; waiting = [] }) (mem registers [] []) refl form
       (record {
         low = low;
         high = high;
         sparse = pos;
-        none = record { no-kept = refl; no-waiting = refl };
-        room = subst (λ (l : List ℕ). registerBytes q ≤ length l) (sym (x .registers)) room;
-        small = subst (λ (l : List ℕ). largest (registersOf q l) ≤ 88 - q) (sym (x .registers)) small;
-      }))
+        none = none;
+        room = with-room p bytes room row long registers refl;
+        small = subst (λ (l : List ℕ). largest l ≤ 88 - p) (sym (of-with p bytes room row long)) small;
+      })
 
--- The same of a row of registers that was put in front of bytes.
-module _ (mask valueType count p s size : ℕ) (row bytes : List ℕ) (low : 4 ≤ p) (high : p ≤ 24) (pos : 0 < s) (room : registerBytes p ≤ length bytes)
-    (long : length row ≡ 2 ^ p) (small : largest row ≤ 88 - p) where
-  row-fits : (r : Accumulator) (n : Mem)
-      → Shows (record { head = denseHead mask valueType count p s size 0; registers = withRegisters p row bytes; kept = []; waiting = [] }) r n
-      → fits r n ≡ true
-  row-fits =
-      dense-fits mask valueType count p s size 0 (withRegisters p row bytes) low high pos
-      (with-room p bytes room row long (withRegisters p row bytes) refl)
-      (subst (λ (l : List ℕ). largest l ≤ 88 - p) (sym (of-with p bytes room row long)) small)
-
--- The values of a list as registers.
+-- The values of a list as registers, and lowered registers.
 module _ (p s : ℕ) (l : List ℕ) (pair : Pair p s) (ok : allValid p s l ≡ true) where
   raised-small : largest (raisedBy p s (zeros p) l) ≤ 88 - p
   raised-small =
       largest-raised p s (zeros p) l (88 - p)
       (λ (v : ℕ) (i : List·Memᴰ v l). subst (λ (k : ℕ). register p s v < k) (sym (length-replicate (2 ^ p) 0)) (valid-inside p s l pair ok v i))
       (let h : largest (zeros p) ≤ 88 - p = omega (arith, largest-zeros (2 ^ p)) in h) (valid-ranks p s l pair ok)
+
+lowered-small : (p q : ℕ) (l : List ℕ) → q ≤ p → p ≤ 24 → largest l ≤ 88 - p → largest (lowered (p - q) q l) ≤ 88 - q
+lowered-small p q l h k small = omega (arith, largest-lowered (p - q) q l)
 
 -- ---- what is known where a path begins
 
@@ -143,310 +181,205 @@ no-data l e = eqb-true (length l) 0 e
 pub some-data : (l : List ℕ) → isEmpty l ≡ false → 0 < length l
 some-data l e = pos-of-ne-zero (eqb-false (length l) 0 e)
 
-module _ (a : Accumulator) (m : Mem) (room : ℕ) (st : State) (vs : List ℕ) (ready : Ready a m room st vs) where
-  facts : JudgedFacts a st
-  facts = judged-facts a st (ready .judged)
+module _ (a : Accumulator) (m : Mem) (room : ℕ) (x : Incoming) (row vs : List ℕ) (pre : TakePre a m room x row vs) where
+  pub registers-room : (f : Form) → a .form ≡ f → registerBytes (wantedPrecision f a (x .precision)) ≤ length (m .registers)
+  registers-room f e = subst (λ (g : Form). registerBytes (wantedPrecision g a (x .precision)) ≤ length (m .registers)) e (pre .in-registers)
 
-  list-in : Accepted (st .hll .precision) (st .hll .sparsePrecision) (listOf st) vs []
-  list-in = accepted (st .hll .precision) (st .hll .sparsePrecision) (listOf st) (ready .listed)
+  -- ---- the first
 
-  pub registers-room : (f : Form) → a .form ≡ f → registerBytes (wantedPrecision f a st) ≤ length (m .registers)
-  unfolding hasRoom
-  registers-room f e =
-      let w = leb (registerBytes (wantedPrecision (a .form) a st)) (length (m .registers)) in
-      let k = leb (wantedCells a (length (listOf st))) (length (m .sparse)) in
-      let q = leb (wantedCells a (length (listOf st))) (length (m .pending)) in
-      let c = leb (wantedCells a (length (listOf st))) room in
-      subst (λ (g : Form). registerBytes (wantedPrecision g a st) ≤ length (m .registers)) e
-      (leb-true (registerBytes (wantedPrecision (a .form) a st)) (length (m .registers)) (both-true w k (both-true (w && k) q (both-true (w && k && q) c (ready .space) .0) .0) .0))
-
-  -- ---- the first state
-
-  start-list : isEmpty (dataOf st) ≡ true → GoodList (st .hll .precision) (st .hll .sparsePrecision) (length (listOf st)) vs []
-  start-list e =
-      record {
-        pair = facts .pair (no-data (dataOf st) e);
-        kept-valid = list-in .all;
-        waiting-valid = none-valid (st .hll .precision) (st .hll .sparsePrecision);
-        order = list-in .rises;
-        few = omega arith;
-        bytes-low = list-in .short;
-        bytes-high = ready .short;
-        wait = λ (h : 0 < length {A = ℕ} []). absurd (let z : ⊥ = omega arith in z);
-      }
-
-  pub start-keeps : a .form ≡ Unstarted → (r : Accumulator) (n : Mem) → Shows (startAfter m st vs) r n → fits r n ≡ true
+  start-keeps : a .form ≡ Unstarted → (r : Accumulator) (n : Mem) → Shows (startAfter m x row vs) r n → fits r n ≡ true
   start-keeps f r n =
-      let p = st .hll .precision in
-      let s = st .hll .sparsePrecision in
-      let mask = maskOf (st .valueType) in
-      start-ways (λ (x : After). Shows x r n → fits r n ≡ true) m st vs
-      (λ (e : isEmpty (dataOf st) ≡ true).
-      list-fits mask (st .valueType) (st .numValues) p s (st .hll .sparseSize) (length (listOf st)) (m .registers) vs [] (length vs) 0
-      (start-list e) refl refl r n)
-      (λ (e : isEmpty (dataOf st) ≡ false).
-      row-fits mask (st .valueType) (st .numValues) p s (st .hll .sparseSize) (dataOf st) (m .registers) (facts .low) (facts .high)
-      (facts .sparse) (registers-room Unstarted f) (facts .size (some-data (dataOf st) e))
-      (let h : largest (dataOf st) ≤ 88 - p = omega (arith, facts .registers) in h) r n)
+      start-ways (λ (y : After). Shows y r n → fits r n ≡ true) m x row vs
+      (λ (e : isEmpty row ≡ true).
+      list-fits (startList m x vs) refl (alone (pre .pair (no-data row e)) (pre .all) (pre .order) (pre .bytes-low) (pre .bytes-high)) r n)
+      (λ (e : isEmpty row ≡ false).
+      row-fits (startDense m x row .head) (record { no-kept = refl; no-waiting = refl }) refl (pre .low) (pre .high) (pre .sparse) (m .registers)
+      (registers-room Unstarted f) row (pre .size (some-data row e)) (pre .small) r n)
 
   -- ---- a list roll-up
 
   module _ (sparse : a .form ≡ Sparse) where
     fit : FitSparse a m
-    fit = fit-sparse a m (ready .fit) sparse
+    fit = fit-sparse a m (pre .fit) sparse
+
+    abbrev p : ℕ
+    p = a .precision
+
+    abbrev s : ℕ
+    s = a .«sparse_precision»
+
+    abbrev h : Accumulator
+    h = counted a x
 
     pub vs-valid : allValid (a .precision) (a .«sparse_precision») vs ≡ true
     vs-valid =
-        subst (λ (k : ℕ). allValid k (a .«sparse_precision») vs ≡ true) (facts .same-normal sparse)
-        (subst (λ (k : ℕ). allValid (st .hll .precision) k vs ≡ true) (facts .same-sparse sparse) (list-in .all))
+        subst (λ (k : ℕ). allValid k s vs ≡ true) (pre .same-normal sparse)
+        (subst (λ (k : ℕ). allValid (x .precision) k vs ≡ true) (pre .same-sparse sparse) (pre .all))
 
-    room-in : registerBytes (a .precision) ≤ length (m .registers)
-    room-in = registers-room Sparse sparse
-
-    pos : 0 < a .«sparse_precision»
-    pos = let x = fit .pair in omega (arith, x .low, x .above)
-
-    settle-keeps : (l : List ℕ) (bytes : ℕ) → allValid (a .precision) (a .«sparse_precision») l ≡ true → ascends l ≡ true → written l ≤ bytes
-        → (r : Accumulator) (n : Mem) → Shows (settle a m st l bytes) r n → fits r n ≡ true
-    settle-keeps l bytes ok o w r n =
-        let p = a .precision in
-        let s = a .«sparse_precision» in
-        let mask = commonMask a st in
-        let count = sumCount a st in
-        settle-ways (λ (x : After). Shows x r n → fits r n ≡ true) m st a l bytes
-        (λ (e : ltb bytes (limit p) ≡ true).
-        list-fits mask (a .«value_type») count p s (length l) bytes (m .registers) l [] (length l) 0
-        (record {
-          pair = fit .pair;
-          kept-valid = ok;
-          waiting-valid = none-valid p s;
-          order = o;
-          few = omega arith;
-          bytes-low = w;
-          bytes-high = let h = ltb-true bytes (limit p) e in let k = limit-small p (fit .pair .high) in omega arith;
-          wait = λ (h : 0 < length {A = ℕ} []). absurd (let z : ⊥ = omega arith in z);
-        }) refl refl r n)
-        (λ (e : ltb bytes (limit p) ≡ false).
-        row-fits mask (a .«value_type») count p s 0 (raisedBy p s (zeros p) l) (m .registers) (fit .pair .low) (fit .pair .high) pos room-in
-        (zeros-raised p s l) (raised-small p s l (fit .pair) ok) r n)
-
-    kept-length : a .«sparse_len» ≡ length (keptOf a m)
-    kept-length = sym (length-take-le (a .«sparse_len») (m .sparse) (fit .kept-in))
-
-    waiting-length : a .«pending_len» ≡ length (waitingOf a m)
-    waiting-length = sym (length-take-le (a .«pending_len») (m .pending) (fit .waiting-in))
-
-    all-length : a .«pending_len» + length vs ≡ length (waitingOf a m ++ vs)
-    all-length = ap (λ (k : ℕ). k + length vs) waiting-length ∙ sym (length-append (waitingOf a m) vs)
-
-    all-valid : allValid (a .precision) (a .«sparse_precision») (waitingOf a m ++ vs) ≡ true
-    all-valid = valid-append (a .precision) (a .«sparse_precision») (waitingOf a m) vs (fit .waiting-valid) vs-valid
-
-    -- Values that were merged into those kept.
-    merge-keeps : (b : List ℕ) (bytes : ℕ) → allValid (a .precision) (a .«sparse_precision») b ≡ true
-        → written (merged (a .precision) (a .«sparse_precision») (keptOf a m) b) ≤ bytes → (r : Accumulator) (n : Mem)
-        → Shows (settle a m st (merged (a .precision) (a .«sparse_precision») (keptOf a m) b) bytes) r n → fits r n ≡ true
-    merge-keeps b bytes ok w =
-        let p = a .precision in
-        let s = a .«sparse_precision» in
-        settle-keeps (merged p s (keptOf a m) b) bytes (merged-valid p s (keptOf a m) b (fit .kept-valid) ok) (merged-ascends p s (keptOf a m) b) w
-
-    wait-list : waits a (length vs) ≡ true
-        → GoodList (a .precision) (a .«sparse_precision») (a .«sparse_bytes») (keptOf a m) (waitingOf a m ++ vs)
-    wait-list e =
-        let p = a .precision in
-        let b = a .«sparse_bytes» + 5 * a .«pending_len» + 5 * length vs in
-        let below : b < limit p = ltb-true b (limit p) (both-true (ltb b (limit p)) (leb (a .«pending_len» + length vs) 2048) e .0) in
-        let few : a .«pending_len» + length vs ≤ 2048 = leb-true _ _ (both-true (ltb b (limit p)) (leb (a .«pending_len» + length vs) 2048) e .1) in
-        record {
-          pair = fit .pair;
-          kept-valid = fit .kept-valid;
-          waiting-valid = all-valid;
-          order = fit .order;
-          few = subst (λ (k : ℕ). k ≤ 2048) all-length few;
-          bytes-low = fit .bytes-low;
-          bytes-high = fit .bytes-high;
-          wait = λ (h : 0 < length (waitingOf a m ++ vs)).
-              subst (λ (k : ℕ). a .«sparse_bytes» + 5 * k < limit p) all-length
-              (let g : a .«sparse_bytes» + 5 * (a .«pending_len» + length vs) < limit p = omega (arith, below) in g);
-        }
-
-    list-keeps : (r : Accumulator) (n : Mem) → Shows (listAfter a m st vs) r n → fits r n ≡ true
-    list-keeps r n =
-        let p = a .precision in
-        let s = a .«sparse_precision» in
-        let kept = keptOf a m in
-        let waiting = waitingOf a m in
-        list-ways (λ (x : After). Shows x r n → fits r n ≡ true) m st a vs
-        (λ (e : waits a (length vs) ≡ true).
-        list-fits (commonMask a st) (a .«value_type») (sumCount a st) p s (a .«sparse_size») (a .«sparse_bytes») (m .registers) kept (waiting ++ vs)
-        (a .«sparse_len») (a .«pending_len» + length vs) (wait-list e) kept-length all-length r n)
-        (merge-keeps (waiting ++ vs) (written (merged p s kept (waiting ++ vs))) all-valid (omega arith) r n)
-        (λ (e : not (eqb (a .«pending_len») 0) ≡ false).
-        merge-keeps vs (a .«sparse_bytes» + written (merged p s kept vs) - written kept) vs-valid
-        (let h : written kept ≤ a .«sparse_bytes» = fit .bytes-low in omega arith) r n)
-        (λ (e : not (eqb (a .«pending_len») 0) ≡ false). merge-keeps vs (written (merged p s kept vs)) vs-valid (omega arith) r n)
-
-    -- The list roll-up as it was, with another mask and count.
-    same-list : GoodList (a .precision) (a .«sparse_precision») (a .«sparse_bytes») (keptOf a m) (waitingOf a m)
-    same-list =
-        record {
-          pair = fit .pair;
-          kept-valid = fit .kept-valid;
-          waiting-valid = fit .waiting-valid;
-          order = fit .order;
-          few = subst (λ (k : ℕ). k ≤ 2048) waiting-length (fit .few);
-          bytes-low = fit .bytes-low;
-          bytes-high = fit .bytes-high;
-          wait =
-              subst (λ (k : ℕ). 0 < k → a .«sparse_bytes» + 5 * k < limit (a .precision)) waiting-length (fit .wait);
-        }
-
-    -- The registers of its values and of a state's data.
-    data-row : isEmpty (dataOf st) ≡ false → length (dataOf st) ≡ 2 ^ a .precision
-    data-row e = facts .size (some-data (dataOf st) e) ∙ ap (λ (k : ℕ). 2 ^ k) (facts .same-normal sparse)
-
-    both-row : List ℕ
-    both-row = raisedBy (a .precision) (a .«sparse_precision») (zeros (a .precision)) (keptOf a m ++ waitingOf a m)
+    all-valid : allValid p s (waitingOf a m ++ vs) ≡ true
+    all-valid = valid-append p s (waitingOf a m) vs (fit .waiting-valid) vs-valid
 
     pub both-valid : allValid (a .precision) (a .«sparse_precision») (keptOf a m ++ waitingOf a m) ≡ true
-    both-valid = valid-append (a .precision) (a .«sparse_precision») (keptOf a m) (waitingOf a m) (fit .kept-valid) (fit .waiting-valid)
+    both-valid = valid-append p s (keptOf a m) (waitingOf a m) (fit .kept-valid) (fit .waiting-valid)
 
-    both-long : length both-row ≡ 2 ^ a .precision
-    unfolding both-row
-    both-long = zeros-raised (a .precision) (a .«sparse_precision») (keptOf a m ++ waitingOf a m)
+    -- It becomes a dense one.
+    densed-keeps : (l : List ℕ) → length l ≡ 2 ^ p → largest l ≤ 88 - p → (r : Accumulator) (n : Mem)
+        → Shows (record { head = densed h; registers = withRegisters p l (m .registers); kept = []; waiting = [] }) r n → fits r n ≡ true
+    densed-keeps =
+        row-fits (densed h) (record { no-kept = refl; no-waiting = refl }) refl (fit .pair .low) (fit .pair .high)
+        (let k : 0 < s = omega (arith, fit .pair .low, fit .pair .above) in k) (m .registers) (registers-room Sparse sparse)
 
-    both-small : largest both-row ≤ 88 - a .precision
-    unfolding both-row
-    both-small = raised-small (a .precision) (a .«sparse_precision») (keptOf a m ++ waitingOf a m) (fit .pair) both-valid
+    -- Values that were merged into those kept.
+    merge-keeps : (bytes : ℕ) → written (allMerged h m vs) ≤ bytes → (r : Accumulator) (n : Mem)
+        → Shows (settle h (m .registers) (allMerged h m vs) bytes) r n → fits r n ≡ true
+    merge-keeps bytes low r n =
+        let l = allMerged h m vs in
+        let ok = merged-valid p s (keptOf a m) (waitingOf a m ++ vs) (fit .kept-valid) all-valid in
+        settle-ways (λ (y : After). Shows y r n → fits r n ≡ true) h (m .registers) l bytes
+        (λ (e : ltb bytes (limit p) ≡ true).
+        list-fits (asList h (m .registers) l bytes) refl
+        (alone (fit .pair) ok (merged-ascends p s (keptOf a m) (waitingOf a m ++ vs)) low
+        (let k : bytes ≤ 2147483647 = omega (arith, ltb-true bytes (limit p) e, limit-small p (fit .pair .high)) in k)) r n)
+        (λ (e : ltb bytes (limit p) ≡ false).
+        densed-keeps (raisedBy p s (zeros p) l) (zeros-raised p s l) (raised-small p s l (fit .pair) ok) r n)
 
-    larger-small : isEmpty (dataOf st) ≡ false → largest (larger both-row (dataOf st)) ≤ 88 - a .precision
-    larger-small e =
-        subst (λ (k : ℕ). k ≤ 88 - a .precision) (sym (largest-larger both-row (dataOf st) (both-long ∙ sym (data-row e))))
-        (max-le both-small
-        (let h : largest (dataOf st) ≤ 88 - a .precision = omega (arith, facts .registers, facts .same-normal sparse) in h))
+    wait-list : waits a x (length vs) ≡ true → ListOf (asWaiting h m vs .head) (keptOf a m) (waitingOf a m ++ vs)
+    wait-list e =
+        let own = fit-list fit in
+        let b = a .«sparse_bytes» + 5 * a .«pending_len» + x .growth in
+        let w = a .«pending_len» + length vs in
+        let test = both-true (ltb b (limit p)) (leb w (x .most)) e in
+        let below = ltb-true b (limit p) (test .0) in
+        record {
+          pair = own .pair;
+          kept-count = own .kept-count;
+          waiting-count = ap (λ (k : ℕ). k + length vs) (own .waiting-count) ∙ sym (length-append (waitingOf a m) vs);
+          kept-valid = own .kept-valid;
+          waiting-valid = all-valid;
+          order = own .order;
+          few = omega (arith, leb-true w (x .most) (test .1), pre .most);
+          bytes-low = own .bytes-low;
+          bytes-high = own .bytes-high;
+          wait = λ (k : 0 < w). let g : a .«sparse_bytes» + 5 * w < limit p = omega (arith, below, pre .growth-low) in g;
+        }
 
-    pub sparse-keeps : (r : Accumulator) (n : Mem) → Shows (sparseAfter a m st vs) r n → fits r n ≡ true
-    unfolding both-row
+    list-keeps : (r : Accumulator) (n : Mem) → Shows (listAfter (listPath a (keptOf a m) x (length vs)) h m vs) r n → fits r n ≡ true
+    list-keeps r n =
+        list-ways (λ (y : After). Shows y r n → fits r n ≡ true) h m vs a x refl
+        (λ (e : length vs ≡ 0). list-fits (unchanged h m) sparse (fit-list fit) r n)
+        (λ (e : waits a x (length vs) ≡ true). list-fits (asWaiting h m vs) refl (wait-list e) r n)
+        (merge-keeps (written (allMerged h m vs)) (omega arith) r n)
+        (λ (z : a .«pending_len» ≡ 0) (e : inserts a (keptOf a m) (length vs) ≡ true).
+        merge-keeps (a .«sparse_bytes» + written (allMerged h m vs) - written (keptOf a m)) (omega (arith, fit .bytes-low)) r n)
+
+    -- The registers of its values and of a row that comes in.
+    row-keeps : isEmpty row ≡ false → (r : Accumulator) (n : Mem) → Shows (rowTaken h m row) r n → fits r n ≡ true
+    row-keeps e =
+        let both = keptOf a m ++ waitingOf a m in
+        let own = raisedBy p s (zeros p) both in
+        let long = zeros-raised p s both in
+        let same = pre .size (some-data row e) ∙ ap (λ (k : ℕ). 2 ^ k) (pre .same-normal sparse) in
+        densed-keeps (larger own row) (larger-length own row ∙ long)
+        (subst (λ (k : ℕ). k ≤ 88 - p) (sym (largest-larger own row (long ∙ sym same)))
+        (max-le (raised-small p s both (fit .pair) both-valid)
+        (subst (λ (k : ℕ). largest row ≤ 88 - k) (pre .same-normal sparse) (pre .small))))
+
+    sparse-keeps : (r : Accumulator) (n : Mem) → Shows (sparseAfter a m x row vs) r n → fits r n ≡ true
     sparse-keeps r n =
-        let p = a .precision in
-        let s = a .«sparse_precision» in
-        sparse-ways (λ (x : After). Shows x r n → fits r n ≡ true) m st a vs
-        (λ (e : isEmpty (dataOf st) ≡ true) (f : isEmpty (listOf st) ≡ true).
-        list-fits (commonMask a st) (a .«value_type») (sumCount a st) p s (a .«sparse_size») (a .«sparse_bytes») (m .registers) (keptOf a m) (waitingOf a m)
-        (a .«sparse_len») (a .«pending_len») same-list kept-length waiting-length r n)
-        (λ (e : isEmpty (dataOf st) ≡ true). list-keeps r n)
-        (λ (e : isEmpty (dataOf st) ≡ false).
-        row-fits (commonMask a st) (a .«value_type») (sumCount a st) p s 0 (larger both-row (dataOf st)) (m .registers) (fit .pair .low)
-        (fit .pair .high) pos room-in (larger-length both-row (dataOf st) ∙ both-long) (larger-small e) r n)
+        sparse-ways (λ (y : After). Shows y r n → fits r n ≡ true) a m x row vs (λ (e : isEmpty row ≡ true). list-keeps r n)
+        (λ (e : isEmpty row ≡ false). row-keeps e r n)
 
   -- ---- a dense roll-up
 
   module _ (dense : a .form ≡ Dense) where
     fit-d : FitDense a m
-    fit-d = fit-dense a m (ready .fit) dense
+    fit-d = fit-dense a m (pre .fit) dense
 
     abbrev q : ℕ
-    q = min (a .precision) (st .hll .precision)
+    q = min (a .precision) (x .precision)
 
     abbrev own : List ℕ
     own = lowered (a .precision - q) q (registersOf (a .precision) (m .registers))
 
-    q-low : 4 ≤ q
-    q-low = omega (arith, fit-d .low, facts .low)
-
-    q-own : q ≤ a .precision
-    q-own = min-le-left (a .precision) (st .hll .precision)
-
-    q-state : q ≤ st .hll .precision
-    q-state = min-le-right (a .precision) (st .hll .precision)
+    abbrev given : List ℕ
+    given = lowered (x .precision - q) q row
 
     abbrev freed : List ℕ
     freed = replicate (2 ^ a .precision - 2 ^ q) 0
 
+    q-own : q ≤ a .precision
+    q-own = min-le-left (a .precision) (x .precision)
+
+    q-given : q ≤ x .precision
+    q-given = min-le-right (a .precision) (x .precision)
+
     own-small : largest own ≤ 88 - q
-    own-small =
-        let h = largest-lowered (a .precision - q) q (registersOf (a .precision) (m .registers)) in
-        let k = fit-d .small in
-        let l = fit-d .high in
-        let w = q-own in
-        omega arith
+    own-small = lowered-small (a .precision) q (registersOf (a .precision) (m .registers)) q-own (fit-d .high) (fit-d .small)
 
     own-long : length own ≡ 2 ^ q
     own-long = lowered-length (a .precision - q) q (registersOf (a .precision) (m .registers))
 
-    raised-long : length (raisedByState q st vs own) ≡ 2 ^ q
+    raised-long : length (raisedTo q x row vs own) ≡ 2 ^ q
     raised-long =
-        let p = st .hll .precision in
-        let s = st .hll .sparsePrecision in
-        either (λ (l : List ℕ). length l ≡ 2 ^ q) (isEmpty (dataOf st)) (raisedLower p s (p - q) own vs)
-        (larger own (lowered (p - q) q (dataOf st)))
-        (λ (e : isEmpty (dataOf st) ≡ true). lower-length p s (p - q) own vs ∙ own-long)
-        (λ (e : isEmpty (dataOf st) ≡ false). larger-length own (lowered (p - q) q (dataOf st)) ∙ own-long)
+        let d = x .precision - q in
+        whichever (λ (l : List ℕ). length l ≡ 2 ^ q) (isEmpty row) (raisedLower (x .precision) (x .«sparse_precision») d own vs) (larger own given)
+        (lower-length (x .precision) (x .«sparse_precision») d own vs ∙ own-long) (larger-length own given ∙ own-long)
 
-    by-list : isEmpty (dataOf st) ≡ true
-        → largest (raisedLower (st .hll .precision) (st .hll .sparsePrecision) (st .hll .precision - q) own vs) ≤ 88 - q
+    by-list : isEmpty row ≡ true → largest (raisedLower (x .precision) (x .«sparse_precision») (x .precision - q) own vs) ≤ 88 - q
     by-list e =
-        let p = st .hll .precision in
-        let s = st .hll .sparsePrecision in
-        let pair = facts .pair (no-data (dataOf st) e) in
-        let split : p ≡ q + (p - q) = omega (arith, q-state) in
-        let same : (88 - p) + (p - q) ≡ 88 - q = omega (arith, q-state, facts .high) in
+        let p = x .precision in
+        let s = x .«sparse_precision» in
+        let pair = pre .pair (no-data row e) in
+        let split : p ≡ q + (p - q) = omega (arith, q-given) in
+        let same : (88 - p) + (p - q) ≡ 88 - q = omega (arith, q-given, pre .high) in
         subst (λ (k : ℕ). largest (raisedLower p s (p - q) own vs) ≤ k) same
         (largest-raised-lower p s (p - q) own vs (88 - p)
         (λ (v : ℕ) (i : List·Memᴰ v vs).
-        subst (λ (k : ℕ). register p s v / 2 ^ (p - q) < k) (sym own-long) (valid-inside-lower p s (p - q) q vs split pair (list-in .all) v i))
-        (subst (λ (k : ℕ). largest own ≤ k) (sym same) own-small) (valid-ranks p s vs pair (list-in .all)))
+        subst (λ (k : ℕ). register p s v / 2 ^ (p - q) < k) (sym own-long) (valid-inside-lower p s (p - q) q vs split pair (pre .all) v i))
+        (subst (λ (k : ℕ). largest own ≤ k) (sym same) own-small) (valid-ranks p s vs pair (pre .all)))
 
-    by-data : largest (larger own (lowered (st .hll .precision - q) q (dataOf st))) ≤ 88 - q
-    by-data =
-        let d = st .hll .precision - q in
-        let h = largest-lowered d q (dataOf st) in
-        subst (λ (k : ℕ). k ≤ 88 - q)
-        (sym (largest-larger own (lowered d q (dataOf st)) (own-long ∙ sym (lowered-length d q (dataOf st)))))
-        (max-le own-small
-        (let k : largest (lowered d q (dataOf st)) ≤ 88 - q = omega (arith, h, facts .registers, facts .high, q-state) in k))
+    by-row : largest (larger own given) ≤ 88 - q
+    by-row =
+        subst (λ (k : ℕ). k ≤ 88 - q) (sym (largest-larger own given (own-long ∙ sym (lowered-length (x .precision - q) q row))))
+        (max-le own-small (lowered-small (x .precision) q row q-given (pre .high) (pre .small)))
 
-    raised-few : largest (raisedByState q st vs own) ≤ 88 - q
+    raised-few : largest (raisedTo q x row vs own) ≤ 88 - q
     raised-few =
-        let p = st .hll .precision in
-        let s = st .hll .sparsePrecision in
-        either (λ (l : List ℕ). largest l ≤ 88 - q) (isEmpty (dataOf st)) (raisedLower p s (p - q) own vs) (larger own (lowered (p - q) q (dataOf st)))
-        by-list (λ (e : isEmpty (dataOf st) ≡ false). by-data)
+        either (λ (l : List ℕ). largest l ≤ 88 - q) (isEmpty row) (raisedLower (x .precision) (x .«sparse_precision») (x .precision - q) own vs)
+        (larger own given) by-list (λ (e : isEmpty row ≡ false). by-row)
 
     -- The row with the freed registers, as long as it was.
-    whole-long : length (raisedByState q st vs own ++ freed) ≡ 2 ^ a .precision
+    whole-long : length (raisedTo q x row vs own ++ freed) ≡ 2 ^ a .precision
     whole-long =
-        length-append (raisedByState q st vs own) freed
+        length-append (raisedTo q x row vs own) freed
         ∙ ap (λ (k : ℕ). k + length freed) raised-long
         ∙ ap (λ (k : ℕ). 2 ^ q + k) (length-replicate (2 ^ a .precision - 2 ^ q) 0)
         ∙ (let h = pow-mono q-own in let e : 2 ^ q + (2 ^ a .precision - 2 ^ q) ≡ 2 ^ a .precision = omega arith in e)
 
-    least-pos : 0 < signedMin (a .«sparse_precision») (st .hll .sparsePrecision)
-    least-pos =
-        either (λ (k : ℕ). 0 < k) (ltb (signedKey (st .hll .sparsePrecision)) (signedKey (a .«sparse_precision»))) (st .hll .sparsePrecision)
-        (a .«sparse_precision») (λ (e : ltb (signedKey (st .hll .sparsePrecision)) (signedKey (a .«sparse_precision»)) ≡ true). facts .sparse)
-        (λ (e : ltb (signedKey (st .hll .sparsePrecision)) (signedKey (a .«sparse_precision»)) ≡ false). fit-d .sparse)
-
-    pub dense-keeps : (r : Accumulator) (n : Mem) → Shows (denseAfter a m st vs) r n → fits r n ≡ true
+    dense-keeps : (r : Accumulator) (n : Mem) → Shows (denseAfter a m x row vs) r n → fits r n ≡ true
     unfolding denseAfter
-    dense-keeps r n =
+    dense-keeps =
         let p = a .precision in
-        let row = raisedByState q st vs own in
-        let left-over = with-length p (m .registers) (fit-d .room) (row ++ freed) whole-long in
-        dense-fits (commonMask a st) (a .«value_type») (sumCount a st) q (signedMin (a .«sparse_precision») (st .hll .sparsePrecision))
-        (a .«sparse_size») (a .«sparse_bytes») (withRegisters p (row ++ freed) (m .registers)) q-low
-        (let h : q ≤ 24 = omega (arith, q-own, fit-d .high) in h) least-pos
-        (let h : registerBytes q ≤ length (withRegisters p (row ++ freed) (m .registers)) =
-        omega (arith, left-over, fewer-bytes q p q-own, fit-d .room) in h)
-        (subst (λ (l : List ℕ). largest l ≤ 88 - q) (sym (of-front q p row freed (m .registers) raised-long)) raised-few) r n
+        let raised = raisedTo q x row vs own in
+        let registers = withRegisters p (raised ++ freed) (m .registers) in
+        dense-fits (denseAfter a m x row vs) (mem registers [] []) refl refl
+        (record {
+          low = omega (arith, fit-d .low, pre .low);
+          high = omega (arith, q-own, fit-d .high);
+          sparse =
+              whichever (λ (k : ℕ). 0 < k) (ltb (signedKey (x .«sparse_precision»)) (signedKey (a .«sparse_precision»))) (x .«sparse_precision»)
+              (a .«sparse_precision») (pre .sparse) (fit-d .sparse);
+          none = record { no-kept = refl; no-waiting = refl };
+          room = omega (arith, with-length p (m .registers) (fit-d .room) (raised ++ freed) whole-long, fewer-bytes q p q-own, fit-d .room);
+          small = subst (λ (l : List ℕ). largest l ≤ 88 - q) (sym (of-front q p raised freed (m .registers) raised-long)) raised-few;
+        })
 
   -- ---- whatever the form
 
-  pub accepted-keeps : (r : Accumulator) (n : Mem) → Shows (acceptedAfter (a .form) a m st vs) r n → fits r n ≡ true
-  accepted-keeps r n = by-form (a .form) refl
+  pub taken-keeps : (r : Accumulator) (n : Mem) → Shows (takenAfter (a .form) a m x row vs) r n → fits r n ≡ true
+  taken-keeps r n = by-form (a .form) refl
     where
-      by-form : (f : Form) → a .form ≡ f → Shows (acceptedAfter f a m st vs) r n → fits r n ≡ true
+      by-form : (f : Form) → a .form ≡ f → Shows (takenAfter f a m x row vs) r n → fits r n ≡ true
       by-form Unstarted e = start-keeps e r n
       by-form Sparse e = sparse-keeps e r n
       by-form Dense e = dense-keeps e r n
@@ -455,48 +388,13 @@ module _ (a : Accumulator) (m : Mem) (room : ℕ) (st : State) (vs : List ℕ) (
 
 -- Where nothing changed but the order of the values that wait and cells past the counts.
 module _ (a : Accumulator) (m : Mem) (fit : fits a m ≡ true) (answer : ℕ) (r : Accumulator) (n : Mem) (sh : Shows (refuse answer a m .after) r n) where
-  as-left : Shows (refuse answer a m .after) a n
-  as-left =
-      record {
-        head = refl;
-        registers = sh .registers;
-        kept = subst (λ (h : Accumulator). keptOf h n ≡ keptOf a m) (sh .head) (sh .kept);
-        waiting = subst (λ (h : Accumulator). List·Permᴰ (waitingOf h n) (waitingOf a m)) (sh .head) (sh .waiting);
-      }
-
   pub refused-keeps : fits r n ≡ true
-  refused-keeps = ap (λ (h : Accumulator). fits h n) (sh .head) ∙ by-form (a .form) refl
+  refused-keeps = by-form (a .form) refl
     where
-      by-form : (f : Form) → a .form ≡ f → fits a n ≡ true
-      by-form Unstarted e = fit-none-back a n e (fit-none a m fit e)
-      by-form Sparse e =
-          let x = fit-sparse a m fit e in
-          let lk = length-take-le (a .«sparse_len») (m .sparse) (x .kept-in) in
-          let lw = length-take-le (a .«pending_len») (m .pending) (x .waiting-in) in
-          fit-sparse-back a n e
-          (record {
-            pair = x .pair;
-            kept-in = in-list (a .«sparse_len») (n .sparse) (ap length (as-left .kept) ∙ lk);
-            waiting-in = in-list (a .«pending_len») (n .pending) (perm-length (as-left .waiting) ∙ lw);
-            kept-valid = ap (allValid (a .precision) (a .«sparse_precision»)) (as-left .kept) ∙ x .kept-valid;
-            waiting-valid = valid-perm (a .precision) (a .«sparse_precision») (as-left .waiting) (x .waiting-valid);
-            order = ap ascends (as-left .kept) ∙ x .order;
-            few = x .few;
-            bytes-low = subst (λ (l : List ℕ). written l ≤ a .«sparse_bytes») (sym (as-left .kept)) (x .bytes-low);
-            bytes-high = x .bytes-high;
-            wait = x .wait;
-          })
-      by-form Dense e =
-          let x = fit-dense a m fit e in
-          fit-dense-back a n e
-          (record {
-            low = x .low;
-            high = x .high;
-            sparse = x .sparse;
-            none = x .none;
-            room = subst (λ (l : List ℕ). registerBytes (a .precision) ≤ length l) (sym (as-left .registers)) (x .room);
-            small = subst (λ (l : List ℕ). largest (registersOf (a .precision) l) ≤ 88 - a .precision) (sym (as-left .registers)) (x .small);
-          })
+      by-form : (f : Form) → a .form ≡ f → fits r n ≡ true
+      by-form Unstarted e = ap (λ (h : Accumulator). fits h n) (sh .head) ∙ fit-none-back a n e (fit-none a m fit e)
+      by-form Sparse e = list-fits (unchanged a m) e (fit-list (fit-sparse a m fit e)) r n sh
+      by-form Dense e = dense-fits (unchanged a m) m refl e (fit-dense a m fit e) r n sh
 
 -- ---- writing
 

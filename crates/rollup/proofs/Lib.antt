@@ -11,9 +11,11 @@ pub mod CutLaws
 pub mod WrittenLaws
 pub mod KeepsLaws
 pub mod ViewLaws
-pub mod KnowingLaws
+pub mod DistinctLaws
 pub mod WidthLaws
 pub mod SpaceLaws
+pub mod SourceLaws
+pub mod CountLaws
 pub mod AgreementLaws
 pub mod FoldLaws
 pub mod Agreement

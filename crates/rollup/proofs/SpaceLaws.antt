@@ -1,60 +1,53 @@
 -- Question 17 asks of each state for the registers of the roll-up, so those of a started one have room for as long as it is not moved, in list form too.
 use Prim.Native.Nat.{ℕ, _≤_}
 use mathlib.Core.Path.{_≡_, refl, sym, ap, _∙_, subst}
-use mathlib.Core.Bool.{true, false, not}
+use mathlib.Core.Bool.{true, false}
 use mathlib.Core.List.{List}
 use mathlib.Core.Logic.{⊎-elim}
 use native.Mathlib.Nat.{le-of-eq, le-trans, min-le-left}
-use lib.Dec.{ltb, eqb}
+use lib.Dec.{ltb}
 use lib.ListN.{length}
-use Rattle.wire.specs.State.{State}
 use Rattle.lists.specs.Registers.{registerBytes}
 use Rattle.lists.proofs.RegisterLaws.{fewer-bytes}
 use Rattle.rollup.specs.declared.accumulator.Form.{Form}
 use Rattle.rollup.specs.declared.accumulator.Form.the-variants.{Unstarted, Sparse, Dense}
 use Rattle.rollup.specs.declared.accumulator.Accumulator.{Accumulator}
+use Rattle.rollup.specs.declared.incoming.Incoming.{Incoming}
 use Rattle.rollup.specs.declared.adding.Added.{Added}
-use Rattle.rollup.specs.Accumulator.{Mem, limit, fits}
-use Rattle.rollup.specs.Header.{dataOf, listOf, isEmpty}
-use Rattle.rollup.specs.Adding.{acceptedAfter, isStarted, wantedPrecision, AddPost}
+use Rattle.rollup.specs.Accumulator.{Mem, keptOf, limit, fits}
+use Rattle.rollup.specs.Header.{dataOf, isEmpty}
+use Rattle.rollup.specs.Adding.{stateNumbers, isStarted, wantedPrecision, AddPost}
 use Rattle.rollup.specs.Calls.{Call, Steps, begun, adding, writing, moving, Unmoved, stateIn, valuesIn}
-use Rattle.rollup.specs.Taking.{After, settle, waits, listAfter, sparseAfter, denseAfter}
-use Rattle.rollup.proofs.JudgeLaws.{room-facts}
+use Rattle.rollup.specs.Taking.{After, counted, settle, waits, inserts, denseAfter, takenAfter}
+use Rattle.rollup.proofs.TakeLaws.{ready-takes}
 use Rattle.rollup.proofs.WaysLaws.{start-ways, settle-ways, list-ways, sparse-ways}
 use Rattle.rollup.proofs.ViewLaws.{IsRefused, IsAccepted, add-view, steps-fit}
 
--- ---- an accepted state leaves no larger precision than 17 asked for
+-- ---- what is taken in leaves no larger precision than 17 asked for
 
 abbrev Within : ℕ → After → Type 0
 Within p x = x .head .precision ≤ p
 
-module _ (a : Accumulator) (m : Mem) (st : State) (vs : List ℕ) where
-  settle-within : (l : List ℕ) (bytes : ℕ) → Within (a .precision) (settle a m st l bytes)
-  settle-within l bytes =
-      settle-ways (Within (a .precision)) m st a l bytes (λ (e : ltb bytes (limit (a .precision)) ≡ true). le-of-eq refl)
+module _ (a : Accumulator) (m : Mem) (x : Incoming) (row vs : List ℕ) where
+  abbrev Own : After → Type 0
+  Own = Within (a .precision)
+
+  merge-within : (l : List ℕ) (bytes : ℕ) → Own (settle (counted a x) (m .registers) l bytes)
+  merge-within l bytes =
+      settle-ways Own (counted a x) (m .registers) l bytes (λ (e : ltb bytes (limit (a .precision)) ≡ true). le-of-eq refl)
       (λ (e : ltb bytes (limit (a .precision)) ≡ false). le-of-eq refl)
 
-  list-within : Within (a .precision) (listAfter a m st vs)
-  list-within =
-      list-ways (Within (a .precision)) m st a vs (λ (e : waits a (length vs) ≡ true). le-of-eq refl) (settle-within _ _)
-      (λ (e : not (eqb (a .«pending_len») 0) ≡ false). settle-within _ _) (λ (e : not (eqb (a .«pending_len») 0) ≡ false). settle-within _ _)
-
-  sparse-within : Within (a .precision) (sparseAfter a m st vs)
-  sparse-within =
-      sparse-ways (Within (a .precision)) m st a vs
-      (λ (e : isEmpty (dataOf st) ≡ true) (f : isEmpty (listOf st) ≡ true). le-of-eq refl) (λ (e : isEmpty (dataOf st) ≡ true). list-within)
-      (λ (e : isEmpty (dataOf st) ≡ false). le-of-eq refl)
-
-  dense-within : Within (a .precision) (denseAfter a m st vs)
+  taken-within : (f : Form) → Within (wantedPrecision f a (x .precision)) (takenAfter f a m x row vs)
   unfolding denseAfter
-  dense-within = min-le-left (a .precision) (st .hll .precision)
-
-  accepted-within : (f : Form) → Within (wantedPrecision f a st) (acceptedAfter f a m st vs)
-  accepted-within Unstarted =
-      start-ways (Within (st .hll .precision)) m st vs (λ (e : isEmpty (dataOf st) ≡ true). le-of-eq refl)
-      (λ (e : isEmpty (dataOf st) ≡ false). le-of-eq refl)
-  accepted-within Sparse = sparse-within
-  accepted-within Dense = dense-within
+  taken-within Unstarted =
+      start-ways (Within (x .precision)) m x row vs (λ (e : isEmpty row ≡ true). le-of-eq refl) (λ (e : isEmpty row ≡ false). le-of-eq refl)
+  taken-within Sparse =
+      sparse-ways Own a m x row vs
+      (λ (e : isEmpty row ≡ true).
+      list-ways Own (counted a x) m vs a x refl (λ (e : length vs ≡ 0). le-of-eq refl) (λ (e : waits a x (length vs) ≡ true). le-of-eq refl)
+      (merge-within _ _) (λ (z : a .«pending_len» ≡ 0) (e : inserts a (keptOf a m) (length vs) ≡ true). merge-within _ _))
+      (λ (e : isEmpty row ≡ false). le-of-eq refl)
+  taken-within Dense = min-le-left (a .precision) (x .precision)
 
 -- ---- the registers of a started roll-up have room
 
@@ -73,11 +66,11 @@ add-space a m room bytes r n fit post s =
     (λ (x : IsAccepted a m room bytes r n) (t : isStarted (r .head .form) ≡ true).
     let st = stateIn bytes in
     let vs = valuesIn st in
-    let wanted = wantedPrecision (a .form) a st in
+    let wanted = wantedPrecision (a .form) a (st .hll .precision) in
     let low : r .head .precision ≤ wanted =
-    subst (λ (h : Accumulator). h .precision ≤ wanted) (sym (x .shows .head)) (accepted-within a m st vs (a .form)) in
+    subst (λ (h : Accumulator). h .precision ≤ wanted) (sym (x .shows .head)) (taken-within a m (stateNumbers st vs) (dataOf st) vs (a .form)) in
     let room-in : registerBytes wanted ≤ length (n .registers) =
-    subst (λ (k : ℕ). registerBytes wanted ≤ k) (sym (post .free .registers)) (room-facts a m room st (x .ready .space) .registers) in
+    subst (λ (k : ℕ). registerBytes wanted ≤ k) (sym (post .free .registers)) (ready-takes (x .ready) .in-registers) in
     le-trans (fewer-bytes (r .head .precision) wanted low) room-in) (add-view a m room bytes r n fit post)
 
 -- As many register bytes as at the start, and room for the registers.

@@ -1,84 +1,61 @@
--- The ways that an accepted state goes. What holds of the outcome of each way that there is holds of the outcome.
+-- The ways that what is taken in goes. What holds of the outcome of each way that there is holds of the outcome.
 use Prim.Native.Nat.{ℕ, _+_, _-_}
-use mathlib.Core.Path.{_≡_, ap}
-use mathlib.Core.List.{List, [], _++_}
-use mathlib.Core.Bool.{Bool, true, false, not, cond}
+use mathlib.Core.Path.{_≡_, sym, subst}
+use mathlib.Core.List.{List}
+use mathlib.Core.Bool.{true, false, not, cond}
 use lib.Dec.{ltb, eqb}
 use lib.ListN.{length}
-use Rattle.wire.specs.State.{State}
+use borrow.Author.Tests.{eqb-true, not-false}
 use Rattle.wire.proofs.BoolLaws.{either}
-use Rattle.lists.specs.Lists.{written, merged}
-use Rattle.lists.specs.Registers.{withRegisters}
+use Rattle.lists.specs.Lists.{written}
 use Rattle.rollup.specs.declared.accumulator.Accumulator.{Accumulator}
-use Rattle.rollup.specs.Accumulator.{Mem, keptOf, waitingOf, limit}
-use Rattle.rollup.specs.Header.{isEmpty, dataOf, listOf, maskOf}
-use Rattle.rollup.specs.Taking.{After, listHead, denseHead, startAfter, settle, waits, inserts, listAfter, sparseAfter, asList, asDense, asWaiting}
-use Rattle.rollup.proofs.SparseLaws.{countedBy, unlisted, fromData}
+use Rattle.rollup.specs.declared.incoming.Incoming.{Incoming}
+use Rattle.rollup.specs.declared.paths.Path.{Path}
+use Rattle.rollup.specs.declared.paths.Path.the-variants.{None, Waits, Sorts, Inserts, Merges}
+use Rattle.rollup.specs.Accumulator.{Mem, keptOf, limit}
+use Rattle.rollup.specs.Header.{isEmpty}
+use Rattle.rollup.specs.Taking.{After, unchanged, counted, startList, startDense, startAfter, asList, asDense, settle, waits, inserts, listPath, allMerged, asWaiting, listAfter, rowTaken, sparseAfter}
 
--- ---- the first state
+-- The path of k values, and what its tests answered.
+pub path-ways : (P : Path → Type 0) (a : Accumulator) (kept : List ℕ) (x : Incoming) (k : ℕ) → (k ≡ 0 → P None) → (waits a x k ≡ true → P Waits) → P Sorts
+    → (a .«pending_len» ≡ 0 → inserts a kept k ≡ true → P Inserts) → (a .«pending_len» ≡ 0 → P Merges) → P (listPath a kept x k)
+path-ways P a kept x k none wait sort insert merge =
+    let placed = cond (inserts a kept k) Inserts Merges in
+    let joined = cond (not (eqb (a .«pending_len») 0)) Sorts placed in
+    either P (eqb k 0) None (cond (waits a x k) Waits joined) (λ (e : eqb k 0 ≡ true). none (eqb-true k 0 e))
+    (λ (e : eqb k 0 ≡ false).
+    either P (waits a x k) Waits joined wait
+    (λ (e : waits a x k ≡ false).
+    either P (not (eqb (a .«pending_len») 0)) Sorts placed (λ (e : not (eqb (a .«pending_len») 0) ≡ true). sort)
+    (λ (e : not (eqb (a .«pending_len») 0) ≡ false).
+    let z : a .«pending_len» ≡ 0 = eqb-true (a .«pending_len») 0 (not-false (eqb (a .«pending_len») 0) e) in
+    either P (inserts a kept k) Inserts Merges (insert z) (λ (e : inserts a kept k ≡ false). merge z))))
 
-abbrev pub startList : Mem → State → List ℕ → After
-startList m st vs =
-    record {
-      head = listHead (maskOf (st .valueType)) (st .valueType) (st .numValues) (st .hll .precision) (st .hll .sparsePrecision) (st .hll .sparseSize) (length vs) (length (listOf st)) 0;
-      registers = m .registers;
-      kept = vs;
-      waiting = [];
-    }
-
-abbrev pub startDense : Mem → State → After
-startDense m st =
-    record {
-      head = denseHead (maskOf (st .valueType)) (st .valueType) (st .numValues) (st .hll .precision) (st .hll .sparsePrecision) (st .hll .sparseSize) 0;
-      registers = withRegisters (st .hll .precision) (dataOf st) (m .registers);
-      kept = [];
-      waiting = [];
-    }
-
-pub start-is : (m : Mem) (st : State) (vs : List ℕ) {t : Bool} → isEmpty (dataOf st) ≡ t → startAfter m st vs ≡ cond t (startList m st vs) (startDense m st)
-unfolding startAfter
-start-is m st vs e = ap (λ (t : Bool). cond t (startList m st vs) (startDense m st)) e
-
--- ---- each way
-
-module _ (P : After → Type 0) (m : Mem) (st : State) where
-  pub start-ways : (vs : List ℕ) → (isEmpty (dataOf st) ≡ true → P (startList m st vs)) → (isEmpty (dataOf st) ≡ false → P (startDense m st)) → P (startAfter m st vs)
+module _ (P : After → Type 0) where
+  pub start-ways : (m : Mem) (x : Incoming) (row vs : List ℕ) → (isEmpty row ≡ true → P (startList m x vs)) → (isEmpty row ≡ false → P (startDense m x row))
+      → P (startAfter m x row vs)
   unfolding startAfter
-  start-ways vs f g = either P (isEmpty (dataOf st)) (startList m st vs) (startDense m st) f g
+  start-ways m x row vs = either P (isEmpty row) (startList m x vs) (startDense m x row)
 
-  module _ (a : Accumulator) where
-    pub settle-ways : (l : List ℕ) (bytes : ℕ) → (ltb bytes (limit (a .precision)) ≡ true → P (asList (countedBy a m st) (m .registers) l bytes))
-        → (ltb bytes (limit (a .precision)) ≡ false → P (asDense (countedBy a m st) (m .registers) l)) → P (settle a m st l bytes)
-    unfolding settle
-    settle-ways l bytes f g =
-        either P (ltb bytes (limit (a .precision))) (asList (countedBy a m st) (m .registers) l bytes) (asDense (countedBy a m st) (m .registers) l) f g
+  pub settle-ways : (h : Accumulator) (registers l : List ℕ) (bytes : ℕ) → (ltb bytes (limit (h .precision)) ≡ true → P (asList h registers l bytes))
+      → (ltb bytes (limit (h .precision)) ≡ false → P (asDense h registers l)) → P (settle h registers l bytes)
+  unfolding settle
+  settle-ways h registers l bytes = either P (ltb bytes (limit (h .precision))) (asList h registers l bytes) (asDense h registers l)
 
-    module _ (vs : List ℕ) where
-      abbrev mergedWith : List ℕ → List ℕ
-      mergedWith l = merged (a .precision) (a .«sparse_precision») (keptOf a m) l
+  -- No values come, or they wait, or all are merged; an insertion counts the bytes in a way of its own.
+  pub list-ways : (h : Accumulator) (m : Mem) (vs : List ℕ) (a : Accumulator) (x : Incoming) {path : Path} → path ≡ listPath a (keptOf a m) x (length vs)
+      → (length vs ≡ 0 → P (unchanged h m)) → (waits a x (length vs) ≡ true → P (asWaiting h m vs))
+      → P (settle h (m .registers) (allMerged h m vs) (written (allMerged h m vs)))
+      → (a .«pending_len» ≡ 0 → inserts a (keptOf a m) (length vs) ≡ true
+      → P (settle h (m .registers) (allMerged h m vs) (h .«sparse_bytes» + written (allMerged h m vs) - written (keptOf h m)))) → P (listAfter path h m vs)
+  unfolding listAfter
+  list-ways h m vs a x its none wait merge insert =
+      subst (λ (path : Path). P (listAfter path h m vs)) (sym its)
+      (path-ways (λ (path : Path). P (listAfter path h m vs)) a (keptOf a m) x (length vs) none wait merge insert (λ (z : a .«pending_len» ≡ 0). merge))
 
-      -- A list's values wait, or are merged with those that wait; where none wait, they are inserted or merged.
-      pub list-ways : (waits a (length vs) ≡ true → P (asWaiting (countedBy a m st) m vs))
-          → P (settle a m st (mergedWith (waitingOf a m ++ vs)) (written (mergedWith (waitingOf a m ++ vs))))
-          → (not (eqb (a .«pending_len») 0) ≡ false → P (settle a m st (mergedWith vs) (a .«sparse_bytes» + written (mergedWith vs) - written (keptOf a m))))
-          → (not (eqb (a .«pending_len») 0) ≡ false → P (settle a m st (mergedWith vs) (written (mergedWith vs)))) → P (listAfter a m st vs)
-      unfolding listAfter
-      list-ways w all f g =
-          let joined = settle a m st (mergedWith (waitingOf a m ++ vs)) (written (mergedWith (waitingOf a m ++ vs))) in
-          let inserted = settle a m st (mergedWith vs) (a .«sparse_bytes» + written (mergedWith vs) - written (keptOf a m)) in
-          let new = settle a m st (mergedWith vs) (written (mergedWith vs)) in
-          let settling = cond (inserts a m (length vs)) inserted new in
-          either P (waits a (length vs)) (asWaiting (countedBy a m st) m vs) (cond (not (eqb (a .«pending_len») 0)) joined settling) w
-          (λ (e : waits a (length vs) ≡ false).
-          either P (not (eqb (a .«pending_len») 0)) joined settling (λ (h : not (eqb (a .«pending_len») 0) ≡ true). all)
-          (λ (h : not (eqb (a .«pending_len») 0) ≡ false).
-          either P (inserts a m (length vs)) inserted new (λ (i : inserts a m (length vs) ≡ true). f h) (λ (i : inserts a m (length vs) ≡ false). g h)))
-
-      -- A state at a list roll-up brings nothing, a list or data.
-      pub sparse-ways : (isEmpty (dataOf st) ≡ true → isEmpty (listOf st) ≡ true → P (unlisted a m st vs))
-          → (isEmpty (dataOf st) ≡ true → P (listAfter a m st vs)) → (isEmpty (dataOf st) ≡ false → P (fromData a m st vs)) → P (sparseAfter a m st vs)
-      unfolding sparseAfter
-      sparse-ways none list row =
-          either P (isEmpty (dataOf st)) (cond (isEmpty (listOf st)) (unlisted a m st vs) (listAfter a m st vs)) (fromData a m st vs)
-          (λ (e : isEmpty (dataOf st) ≡ true).
-          either P (isEmpty (listOf st)) (unlisted a m st vs) (listAfter a m st vs) (none e) (λ (f : isEmpty (listOf st) ≡ false). list e)) row
+  -- At a list roll-up.
+  pub sparse-ways : (a : Accumulator) (m : Mem) (x : Incoming) (row vs : List ℕ)
+      → (isEmpty row ≡ true → P (listAfter (listPath a (keptOf a m) x (length vs)) (counted a x) m vs))
+      → (isEmpty row ≡ false → P (rowTaken (counted a x) m row)) → P (sparseAfter a m x row vs)
+  unfolding sparseAfter
+  sparse-ways a m x row vs = either P (isEmpty row) (listAfter (listPath a (keptOf a m) x (length vs)) (counted a x) m vs) (rowTaken (counted a x) m row)

@@ -1,46 +1,47 @@
 -- The numbers of a head fit their widths after every call: what they are made of was read from a state, or wraps, or counts values.
-use Prim.Native.Nat.{ℕ, _+_, _%_, _^_, _<_, _≤_}
+use Prim.Native.Nat.{ℕ, _+_, _%_, _^_, _<_}
 use mathlib.Core.Path.{_≡_, refl, sym, subst}
-use mathlib.Core.Bool.{true, false, not}
+use mathlib.Core.Bool.{true, false}
 use mathlib.Core.Logic.{⊎-elim}
 use mathlib.Core.List.{List, _++_}
 use native.Mathlib.Nat.{mod-lt}
 use native.Mathlib.Omega.{arith}
-use lib.Dec.{ltb, eqb}
+use lib.Dec.{ltb}
 use lib.ListN.{length, length-append}
 use lib.Seq.{length-take-le}
 use Rattle.wire.specs.Reading.{Read, got, refused}
 use Rattle.wire.specs.State.{State, emptyState, readState}
-use Rattle.wire.proofs.BoolLaws.{either}
+use Rattle.wire.proofs.BoolLaws.{whichever}
 use Rattle.wire.proofs.BoundLaws.{sparse-precision-small, sparse-size-small, count-small, value-type-small}
-use Rattle.lists.specs.Lists.{merged}
 use Rattle.lists.proofs.MergeLaws.{length-merged}
-use Rattle.lists.proofs.DecodingLaws.{accepted}
 use Rattle.rollup.specs.declared.accumulator.Form.{Form}
 use Rattle.rollup.specs.declared.accumulator.Form.the-variants.{Unstarted, Sparse, Dense}
 use Rattle.rollup.specs.declared.accumulator.Accumulator.{Accumulator}
-use Rattle.rollup.specs.Accumulator.{Mem, keptOf, waitingOf, limit, fits, HeadWidths}
-use Rattle.rollup.specs.Header.{dataOf, listOf, isEmpty}
-use Rattle.rollup.specs.Adding.{acceptedAfter, Ready}
+use Rattle.rollup.specs.declared.incoming.Incoming.{Incoming}
+use Rattle.rollup.specs.Accumulator.{Mem, keptOf, waitingOf, limit, fits, fresh, HeadWidths}
+use Rattle.rollup.specs.Header.{dataOf, isEmpty}
+use Rattle.rollup.specs.Taking.{After, counted, startAfter, settle, waits, inserts, allMerged, sparseAfter, signedKey, denseAfter, takenAfter}
+use Rattle.rollup.specs.Adding.{stateNumbers}
+use Rattle.rollup.specs.Accepting.{TakePre}
 use Rattle.rollup.specs.Calls.{Call, Steps, begun, adding, writing, moving, Run, valueOr, stateIn, valuesIn}
-use Rattle.rollup.specs.Taking.{After, signedMin, signedKey, waits, startAfter, settle, listAfter, sparseAfter, denseAfter}
 use Rattle.rollup.proofs.FitLaws.{FitSparse, fit-sparse}
 use Rattle.rollup.proofs.SparseLaws.{counts-short}
+use Rattle.rollup.proofs.TakeLaws.{ready-takes}
 use Rattle.rollup.proofs.WaysLaws.{start-ways, settle-ways, list-ways, sparse-ways}
 use Rattle.rollup.proofs.ViewLaws.{IsRefused, IsAccepted, add-view, fresh-fits, steps-fit}
 
--- The numbers of a state that bytes are.
-record StateWidths (st : State) : Type 0 where
-  value-type : st .valueType < 2 ^ 32
-  count : st .numValues < 2 ^ 64
-  sparse-precision : st .hll .sparsePrecision < 2 ^ 32
-  size : st .hll .sparseSize < 2 ^ 32
+-- The same of what comes in; a state's numbers have them.
+pub record NumberWidths (x : Incoming) : Type 0 where
+  pub value-type : x .«value_type» < 2 ^ 32
+  pub count : x .«num_values» < 2 ^ 64
+  pub sparse-precision : x .«sparse_precision» < 2 ^ 32
+  pub size : x .«sparse_size» < 2 ^ 32
 
-state-widths : (bytes : List ℕ) → StateWidths (stateIn bytes)
+pub state-widths : (bytes vs : List ℕ) → NumberWidths (stateNumbers (stateIn bytes) vs)
 unfolding stateIn
-state-widths bytes = go (readState bytes) refl
+state-widths bytes vs = go (readState bytes) refl
   where
-    go : (x : Read State) → readState bytes ≡ x → StateWidths (valueOr emptyState x)
+    go : (y : Read State) → readState bytes ≡ y → NumberWidths (stateNumbers (valueOr emptyState y) vs)
     go (refused n) e = record { value-type = omega arith; count = omega arith; sparse-precision = omega arith; size = omega arith }
     go (got st l) e =
         record {
@@ -50,83 +51,71 @@ state-widths bytes = go (readState bytes) refl
           size = sparse-size-small bytes st l e;
         }
 
-signed-small : (x y : ℕ) → x < 2 ^ 32 → y < 2 ^ 32 → signedMin x y < 2 ^ 32
-signed-small x y h k = either (λ (v : ℕ). v < 2 ^ 32) (ltb (signedKey y) (signedKey x)) y x (λ (e : ltb (signedKey y) (signedKey x) ≡ true). k) (λ (e : ltb (signedKey y) (signedKey x) ≡ false). h)
-
 abbrev Wide : After → Type 0
-Wide x = HeadWidths (x .head)
+Wide y = HeadWidths (y .head)
 
-module _ (a : Accumulator) (m : Mem) (room : ℕ) (st : State) (vs : List ℕ) (ready : Ready a m room st vs) (w : HeadWidths a) (s : StateWidths st) where
-  start-widths : Wide (startAfter m st vs)
+module _ (a : Accumulator) (m : Mem) (room : ℕ) (x : Incoming) (row vs : List ℕ) (pre : TakePre a m room x row vs) (w : HeadWidths a) (given : NumberWidths x) where
+  start-widths : Wide (startAfter m x row vs)
   start-widths =
-      start-ways Wide m st vs
-      (λ (e : isEmpty (dataOf st) ≡ true). record { value-type = s .value-type; count = s .count; sparse-precision = s .sparse-precision; size = s .size })
-      (λ (e : isEmpty (dataOf st) ≡ false). record { value-type = s .value-type; count = s .count; sparse-precision = s .sparse-precision; size = s .size })
+      start-ways Wide m x row vs
+      (λ (e : isEmpty row ≡ true). record { value-type = given .value-type; count = given .count; sparse-precision = given .sparse-precision; size = given .size })
+      (λ (e : isEmpty row ≡ false). record { value-type = given .value-type; count = given .count; sparse-precision = given .sparse-precision; size = given .size })
 
-  sum-small : (a .«num_values» + st .numValues) % 2 ^ 64 < 2 ^ 64
-  sum-small = mod-lt (a .«num_values» + st .numValues) (let h : 0 < 2 ^ 64 = omega arith in h)
-
-  settle-widths : (l : List ℕ) (bytes : ℕ) → length l < 2 ^ 32 → Wide (settle a m st l bytes)
-  settle-widths l bytes h =
-      settle-ways Wide m st a l bytes
-      (λ (e : ltb bytes (limit (a .precision)) ≡ true). record { value-type = w .value-type; count = sum-small; sparse-precision = w .sparse-precision; size = h })
-      (λ (e : ltb bytes (limit (a .precision)) ≡ false).
-      record { value-type = w .value-type; count = sum-small; sparse-precision = w .sparse-precision; size = omega arith })
+  sum-small : (a .«num_values» + x .«num_values») % 2 ^ 64 < 2 ^ 64
+  sum-small = mod-lt (a .«num_values» + x .«num_values») (let h : 0 < 2 ^ 64 = omega arith in h)
 
   module _ (form : a .form ≡ Sparse) where
-    fit : FitSparse a m
-    fit = fit-sparse a m (ready .fit) form
-
     -- A merge has fewer than 2^32 values.
-    few : (l : List ℕ) → length l ≤ a .«pending_len» + length vs → length (merged (a .precision) (a .«sparse_precision») (keptOf a m) l) < 2 ^ 32
-    few l h =
+    few : length (allMerged a m vs) < 2 ^ 32
+    few =
+        let fit : FitSparse a m = fit-sparse a m (pre .fit) form in
         omega (
           arith,
-          length-merged (a .precision) (a .«sparse_precision») (keptOf a m) l,
+          length-merged (a .precision) (a .«sparse_precision») (keptOf a m) (waitingOf a m ++ vs),
+          length-append (waitingOf a m) vs,
           length-take-le (a .«sparse_len») (m .sparse) (fit .kept-in),
+          length-take-le (a .«pending_len») (m .pending) (fit .waiting-in),
           counts-short fit,
-          accepted (st .hll .precision) (st .hll .sparsePrecision) (listOf st) (ready .listed) .fewer,
-          ready .short,
-          h,
+          pre .incoming-short,
         )
 
-    all-widths : (bytes : ℕ) → Wide (settle a m st (merged (a .precision) (a .«sparse_precision») (keptOf a m) (waitingOf a m ++ vs)) bytes)
-    all-widths bytes =
-        settle-widths (merged (a .precision) (a .«sparse_precision») (keptOf a m) (waitingOf a m ++ vs)) bytes
-        (few (waitingOf a m ++ vs) (omega (arith, length-append (waitingOf a m) vs, length-take-le (a .«pending_len») (m .pending) (fit .waiting-in))))
-
-    new-widths : (bytes : ℕ) → Wide (settle a m st (merged (a .precision) (a .«sparse_precision») (keptOf a m) vs) bytes)
-    new-widths bytes = settle-widths (merged (a .precision) (a .«sparse_precision») (keptOf a m) vs) bytes (few vs (omega arith))
-
-    list-widths : Wide (listAfter a m st vs)
-    list-widths =
-        list-ways Wide m st a vs
-        (λ (e : waits a (length vs) ≡ true). record { value-type = w .value-type; count = sum-small; sparse-precision = w .sparse-precision; size = w .size })
-        (all-widths _) (λ (e : not (eqb (a .«pending_len») 0) ≡ false). new-widths _) (λ (e : not (eqb (a .«pending_len») 0) ≡ false). new-widths _)
-
-    sparse-widths : Wide (sparseAfter a m st vs)
-    sparse-widths =
-        sparse-ways Wide m st a vs
-        (λ (e : isEmpty (dataOf st) ≡ true) (f : isEmpty (listOf st) ≡ true).
-        record { value-type = w .value-type; count = sum-small; sparse-precision = w .sparse-precision; size = w .size })
-        (λ (e : isEmpty (dataOf st) ≡ true). list-widths)
-        (λ (e : isEmpty (dataOf st) ≡ false).
+    merge-widths : (bytes : ℕ) → Wide (settle (counted a x) (m .registers) (allMerged a m vs) bytes)
+    merge-widths bytes =
+        settle-ways Wide (counted a x) (m .registers) (allMerged a m vs) bytes
+        (λ (e : ltb bytes (limit (a .precision)) ≡ true). record { value-type = w .value-type; count = sum-small; sparse-precision = w .sparse-precision; size = few })
+        (λ (e : ltb bytes (limit (a .precision)) ≡ false).
         record { value-type = w .value-type; count = sum-small; sparse-precision = w .sparse-precision; size = omega arith })
 
-  dense-widths : Wide (denseAfter a m st vs)
+    sparse-widths : Wide (sparseAfter a m x row vs)
+    sparse-widths =
+        sparse-ways Wide a m x row vs
+        (λ (e : isEmpty row ≡ true).
+        list-ways Wide (counted a x) m vs a x refl
+        (λ (e : length vs ≡ 0). record { value-type = w .value-type; count = sum-small; sparse-precision = w .sparse-precision; size = w .size })
+        (λ (e : waits a x (length vs) ≡ true). record { value-type = w .value-type; count = sum-small; sparse-precision = w .sparse-precision; size = w .size })
+        (merge-widths _) (λ (z : a .«pending_len» ≡ 0) (e : inserts a (keptOf a m) (length vs) ≡ true). merge-widths _))
+        (λ (e : isEmpty row ≡ false).
+        record { value-type = w .value-type; count = sum-small; sparse-precision = w .sparse-precision; size = omega arith })
+
+  dense-widths : Wide (denseAfter a m x row vs)
   unfolding denseAfter
   dense-widths =
       record {
         value-type = w .value-type;
         count = sum-small;
-        sparse-precision = signed-small (a .«sparse_precision») (st .hll .sparsePrecision) (w .sparse-precision) (s .sparse-precision);
+        sparse-precision =
+            whichever (λ (k : ℕ). k < 2 ^ 32) (ltb (signedKey (x .«sparse_precision»)) (signedKey (a .«sparse_precision»))) (x .«sparse_precision»)
+            (a .«sparse_precision») (given .sparse-precision) (w .sparse-precision);
         size = w .size;
       }
 
-  accepted-widths : (f : Form) → a .form ≡ f → Wide (acceptedAfter f a m st vs)
-  accepted-widths Unstarted e = start-widths
-  accepted-widths Sparse e = sparse-widths e
-  accepted-widths Dense e = dense-widths
+  pub taken-widths : Wide (takenAfter (a .form) a m x row vs)
+  taken-widths = by-form (a .form) refl
+    where
+      by-form : (f : Form) → a .form ≡ f → Wide (takenAfter f a m x row vs)
+      by-form Unstarted e = start-widths
+      by-form Sparse e = sparse-widths e
+      by-form Dense e = dense-widths
 
 pub steps-widths : {a₀ : Accumulator} {m₀ : Mem} {calls : List Call} {a : Accumulator} {m : Mem} → Steps a₀ m₀ calls a m → fits a₀ m₀ ≡ true → HeadWidths a₀
     → HeadWidths a
@@ -134,13 +123,17 @@ steps-widths begun fit w = w
 steps-widths (adding {a = a} {m = m} room bytes r n steps post) fit w =
     ⊎-elim (λ (x : IsRefused a m r n). subst HeadWidths (sym (x .same .head)) (steps-widths steps fit w))
     (λ (x : IsAccepted a m room bytes r n).
+    let st = stateIn bytes in
+    let vs = valuesIn st in
     subst HeadWidths (sym (x .shows .head))
-    (accepted-widths a m room (stateIn bytes) (valuesIn (stateIn bytes)) (x .ready) (steps-widths steps fit w) (state-widths bytes) (a .form) refl))
+    (taken-widths a m room (stateNumbers st vs) (dataOf st) vs (ready-takes (x .ready)) (steps-widths steps fit w) (state-widths bytes vs)))
     (add-view a m room bytes r n (steps-fit steps fit) post)
 steps-widths (writing room out r n after steps post) fit w = steps-widths steps fit w
 steps-widths (moving n steps post) fit w = steps-widths steps fit w
 
+pub fresh-widths : HeadWidths fresh
+fresh-widths = record { value-type = omega arith; count = omega arith; sparse-precision = omega arith; size = omega arith }
+
 -- So `WrittenReads` and `NoPrefixAccepted` speak of every run.
 pub run-widths : {first : Mem} {calls : List Call} {a : Accumulator} {m : Mem} → Run first calls a m → HeadWidths a
-run-widths {first = m} run =
-    steps-widths run (fresh-fits m) (record { value-type = omega arith; count = omega arith; sparse-precision = omega arith; size = omega arith })
+run-widths {first = m} run = steps-widths run (fresh-fits m) fresh-widths
