@@ -177,15 +177,12 @@ module _ (a : Accumulator) (m : Mem) (room : ℕ) (x : Incoming) (row vs : List 
   regs = takenRegisters x row vs
 
   in-row : isEmpty row ≡ false → regs ≡ row
-  unfolding takenRegisters
   in-row e = ap (λ (b : Bool). cond b (listRegisters p s vs) row) e
 
   in-list : isEmpty row ≡ true → regs ≡ listRegisters p s vs
-  unfolding takenRegisters
   in-list e = ap (λ (b : Bool). cond b (listRegisters p s vs) row) e
 
   pub taken-length : length (takenRegisters x row vs) ≡ 2 ^ x .precision
-  unfolding takenRegisters
   taken-length =
       either (λ (l : List ℕ). length l ≡ 2 ^ p) (isEmpty row) (listRegisters p s vs) row
       (λ (e : isEmpty row ≡ true). list-length p s (pre .pair (no-data row e)) vs (pre .all))

@@ -83,7 +83,7 @@ unfoldable pub listRegisters : ℕ → ℕ → List ℕ → List ℕ
 listRegisters p s vs = tabulate (λ j. rankAt p s j vs) 0 (2 ^ p)
 
 -- "Its registers are its data bytes if it has any, else per index the largest rank of its listed values": so of all that is taken in, with a row in the place of data.
-unfoldable pub takenRegisters : Incoming → (row vs : List ℕ) → List ℕ
+abbrev pub takenRegisters : Incoming → (row vs : List ℕ) → List ℕ
 takenRegisters x row vs = cond (isEmpty row) (listRegisters (x .precision) (x .«sparse_precision») vs) row
 
 unfoldable pub registersIn : State → List ℕ
