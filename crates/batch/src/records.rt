@@ -8,7 +8,6 @@ ghost use Rattle.batch.specs.Chain.{wordAt, isRecord, isBatch};
 ghost use Rattle.batch.specs.Batch.{RolledPost};
 use rollup::accumulator::Accumulator;
 use rollup::adding;
-use rollup::adding::Fitting;
 
 // How the chain ended: with an index of zero; with a question's number, 24 or 25; or with more records than there are cells for answers.
 pub enum Ending {
@@ -80,11 +79,8 @@ fn add_records(
     requires { ⌜ isBatch (now batch) ≡ true ⌝ }
     ensures { λ r. ⌜ RolledPost (now (batch .entry)) (mem (now (registers .entry)) (now (sparse .entry)) (now (pending .entry))) (length (now (scratch .entry))) r (mem (now (registers .exit)) (now (sparse .exit)) (now (pending .exit))) (now (answers .entry)) (now (answers .exit)) ⌝ }
 {
-    let head = Accumulator::new();
-    let mut fitting = Fitting {
-        head,
-        distinct: false,
-    };
+    let mut head = Accumulator::new();
+    let mut distinct = false;
     let mut before: usize = 0;
     let mut at = word_at(batch, 0);
     let mut k: usize = 0;
@@ -92,7 +88,7 @@ fn add_records(
         if !is_record(batch, before, at) {
             let ending = Ending::Refused(25);
             return Rolled {
-                head: fitting.head,
+                head,
                 records: k,
                 ending,
             };
@@ -100,7 +96,7 @@ fn add_records(
         if k == answers.len() {
             let ending = Ending::Full;
             return Rolled {
-                head: fitting.head,
+                head,
                 records: k,
                 ending,
             };
@@ -108,14 +104,16 @@ fn add_records(
         let start = at + 8;
         let end = start + word_at(batch, at + 4);
         let r = adding::add_fitting(
-            fitting,
+            head,
+            distinct,
             registers,
             sparse,
             pending,
             scratch,
             &batch[start..end],
         );
-        fitting = r.left;
+        head = r.head;
+        distinct = r.distinct;
         answers[k] = r.answer;
         k += 1;
         before = at;
@@ -123,7 +121,7 @@ fn add_records(
     }
     let ending = Ending::Whole;
     Rolled {
-        head: fitting.head,
+        head,
         records: k,
         ending,
     }

@@ -2,7 +2,7 @@
 use Prim.Native.Nat.{ℕ, suc, _+_, _-_, _<_, _≤_}
 use mathlib.Core.Path.{_≡_, refl, sym, ap, ap₂, _∙_, subst}
 use mathlib.Core.List.{List, [], _∷_, _++_, append-assoc, append-nil}
-use mathlib.Core.Bool.{Bool, true, false, cond, _&&_}
+use mathlib.Core.Bool.{Bool, true, false, cond, _&&_, true≢false}
 use native.Mathlib.Omega.{arith}
 use lib.Dec.{leb}
 use lib.ListN.{length, getD, take, drop, set, length-set, length-append, drop-of-length-le}
@@ -14,11 +14,12 @@ use Rattle.rollup.specs.declared.adding.Added.{Added}
 use Rattle.rollup.specs.Accumulator.{Mem, fits}
 use Rattle.rollup.specs.Adding.{Free, AddPost}
 use Rattle.rollup.specs.Calls.{Call, added, Steps, begun, adding, Run}
+use Rattle.rollup.proofs.AddLaws.{add-unfit, refused-post}
 use Rattle.rollup.proofs.ViewLaws.{add-keeps, steps-after}
 use Rattle.batch.specs.Batch.{addedAll}
 use Rattle.batch.proofs.ChainLaws.{added-last, added-after, same-cells}
 use Rattle.capi.specs.Heads.{isHead, headIn, withHead}
-use Rattle.capi.specs.Folds.{between, splits, endsFit, foldFits, FoldPre, FoldedPost, FoldGoesOn, foldAnswer, FoldRowPost}
+use Rattle.capi.specs.Folds.{between, splits, endsFit, foldFits, FoldPre, FoldedPost, FoldPost, FoldGoesOn, foldAnswer, FoldRowPost}
 use Rattle.capi.proofs.CallLaws.{Found}
 
 -- ---- ends that fit
@@ -203,11 +204,55 @@ unfolding FoldGoesOn
 fold-goes-on a m room bytes ends answers r n left post first calls run =
     subst (λ (c : List Call). Run first c r n) (sym (added-after room (splits bytes 0 ends) left calls)) (steps-after run (post .steps))
 
+-- ---- question 1 and the states
+
+module _ (a : Accumulator) (m : Mem) (room : ℕ) (bytes ends answers : List ℕ) where
+  pub fold-unfit : fits a m ≡ false → FoldPost a m room bytes ends answers (record { answer = 1; head = a }) m answers
+  fold-unfit e =
+      record {
+        answer = sym (ap (λ (t : Bool). cond t 0 1) e);
+        refused = λ (f : fits a m ≡ false). (refl, refl, refl);
+        folded = λ (f : fits a m ≡ true). absurd (true≢false (sym f ∙ e));
+      }
+
+  pub fold-pre : foldFits bytes ends answers ≡ true → fits a m ≡ true → FoldPre a m bytes ends answers
+  fold-pre good f =
+      let parts = both-true (leb (length ends) (length answers)) (endsFit (length bytes) 0 ends) good in
+      record { fit = f; cut = parts .1; room = leb-true (length ends) (length answers) (parts .0) }
+
+  pub fold-done : (h : Accumulator) (n : Mem) (left : List ℕ) → fits a m ≡ true → FoldedPost a m room bytes ends answers h n left
+      → FoldPost a m room bytes ends answers (record { answer = 0; head = h }) n left
+  fold-done h n left e post =
+      record {
+        answer = sym (ap (λ (t : Bool). cond t 0 1) e);
+        refused = λ (f : fits a m ≡ false). absurd (true≢false (sym e ∙ f));
+        folded = λ (f : fits a m ≡ true). post;
+      }
+
+  -- What the answer says of question 1.
+  module _ (r : Added) (n : Mem) (left : List ℕ) (post : FoldPost a m room bytes ends answers r n left) where
+    by-fit : (t : Bool) → fits a m ≡ t → r .answer ≡ cond t 0 1
+    by-fit t e = post .answer ∙ ap (λ (b : Bool). cond b 0 1) e
+
+    pub was-fit : r .answer ≡ 0 → fits a m ≡ true
+    was-fit z = go (fits a m) refl
+      where
+        go : (t : Bool) → fits a m ≡ t → fits a m ≡ true
+        go true e = e
+        go false e = absurd (let y : ⊥ = omega (arith, by-fit false e) in y)
+
+    pub was-unfit : (r .answer ≡ 0 → ⊥) → fits a m ≡ false
+    was-unfit z = go (fits a m) refl
+      where
+        go : (t : Bool) → fits a m ≡ t → fits a m ≡ false
+        go true e = absurd (z (by-fit true e))
+        go false e = e
+
 -- ---- one state
 
 -- Its end is that of the bytes, and it has one cell.
-pub one-pre : (a : Accumulator) (m : Mem) (bytes : List ℕ) (cell : ℕ) → fits a m ≡ true → FoldPre a m bytes (length bytes ∷ []) (cell ∷ [])
-one-pre a m bytes cell f = record { fit = f; cut = ends-one (length bytes); room = omega arith }
+pub one-fits : (bytes : List ℕ) (cell : ℕ) → foldFits bytes (length bytes ∷ []) (cell ∷ []) ≡ true
+one-fits bytes cell = both (le-leb 1 1 (omega arith)) (ends-one (length bytes))
 
 -- One call is what it promises.
 one-call : {a : Accumulator} {m : Mem} {room : ℕ} {s : List ℕ} {k : ℕ} {h : Accumulator} {n : Mem} → Steps a m (added room s k ∷ []) h n
@@ -220,11 +265,23 @@ unfolding addedAll splits
 one-added room bytes [] e = absurd (let z : ⊥ = omega arith in z)
 one-added room bytes (k ∷ left) e = refl
 
-pub one-state : (a : Accumulator) (m : Mem) (room : ℕ) (bytes : List ℕ) (cell : ℕ) (r : Accumulator) (n : Mem) (left : List ℕ)
-    → FoldedPost a m room bytes (length bytes ∷ []) (cell ∷ []) r n left → AddPost a m room bytes (record { answer = getD left 0 0; head = r }) n
-one-state a m room bytes cell r n left post =
-    subst (λ (s : List ℕ). AddPost a m room s (record { answer = getD left 0 0; head = r }) n) (take-all (length bytes - 0) bytes (omega arith))
-    (one-call (subst (λ (c : List Call). Steps a m c r n) (one-added room bytes left (post .cells)) (post .steps)))
+module _ (a : Accumulator) (m : Mem) (room : ℕ) (bytes : List ℕ) (cell : ℕ) (r : Added) (n : Mem) (left : List ℕ)
+    (post : FoldPost a m room bytes (length bytes ∷ []) (cell ∷ []) r n left) where
+  pub one-state : r .answer ≡ 0 → AddPost a m room bytes (record { answer = getD left 0 0; head = r .head }) n
+  one-state z =
+      let folded = post .folded (was-fit a m room bytes (length bytes ∷ []) (cell ∷ []) r n left post z) in
+      subst (λ (s : List ℕ). AddPost a m room s (record { answer = getD left 0 0; head = r .head }) n) (take-all (length bytes - 0) bytes (omega arith))
+      (one-call (subst (λ (c : List Call). Steps a m c (r .head) n) (one-added room bytes left (folded .cells)) (folded .steps)))
+
+  pub one-refused : (r .answer ≡ 0 → ⊥) → AddPost a m room bytes r n
+  one-refused z =
+      let unfit = was-unfit a m room bytes (length bytes ∷ []) (cell ∷ []) r n left post z in
+      let same = post .refused unfit in
+      let one : r .answer ≡ 1 = post .answer ∙ ap (λ (b : Bool). cond b 0 1) unfit in
+      subst (λ (l : Mem). AddPost a m room bytes r l) (sym (same .1))
+      (subst (λ (h : Accumulator). AddPost a m room bytes (record { answer = r .answer; head = h }) m) (sym (same .0))
+      (subst (λ (k : ℕ). AddPost a m room bytes (record { answer = k; head = a }) m) (sym one)
+      (refused-post a m room bytes 1 (add-unfit a m room bytes unfit))))
 
 -- ---- of a head that is a row
 
@@ -254,24 +311,28 @@ module _ (row : List ℕ) (m : Mem) (room : ℕ) (bytes ends answers : List ℕ)
       fits-row t e =
           ap (λ (b : Bool). b && fits (headIn row) m) (x .yes-head) ∙ ap (λ (h : Accumulator). fits h m) (sym (x .is-head)) ∙ e
 
-      pub fold-unfit : fits a m ≡ false → FoldRowPost row m room bytes ends answers 1 row m answers
-      fold-unfit e = refused-whole 1 (omega arith) (sym (answered false (fits-row false e)))
+      module _ (r : Added) (n : Mem) (left : List ℕ) (post : FoldPost a m room bytes ends answers r n left) where
+        -- Question 1 was answered with no.
+        pub row-unfit : (r .answer ≡ 0 → ⊥) → FoldRowPost row m room bytes ends answers (r .answer) row n left
+        row-unfit z =
+            let e = was-unfit a m room bytes ends answers r n left post z in
+            let same = post .refused e in
+            record {
+              answer-is = post .answer ∙ ap (λ (t : Bool). cond t 0 1) e ∙ sym (answered false (fits-row false e));
+              refused = λ (f : r .answer ≡ 0 → ⊥). (refl, same .1, same .2);
+              folded = λ (f : r .answer ≡ 0). absurd (z f);
+            }
 
-      pub fold-pre : fits a m ≡ true → FoldPre a m bytes ends answers
-      fold-pre f =
-          let parts = both-true (leb (length ends) (length answers)) (endsFit (length bytes) 0 ends) good in
-          record { fit = f; cut = parts .1; room = leb-true (length ends) (length answers) (parts .0) }
-
-      pub fold-found : (h : Accumulator) (n : Mem) (left after : List ℕ) → fits a m ≡ true → FoldedPost a m room bytes ends answers h n left
-          → after ≡ withHead h row → FoldRowPost row m room bytes ends answers 0 after n left
-      fold-found h n left after f post put =
-          record {
-            answer-is = sym (answered true (fits-row true f));
-            refused = λ (g : _≡_ {A = ℕ} 0 0 → ⊥). absurd (g refl);
-            folded = λ (g : _≡_ {A = ℕ} 0 0).
-                record {
-                  head = h;
-                  post = subst (λ (b : Accumulator). FoldedPost b m room bytes ends answers h n left) (x .is-head) post;
-                  row-left = put;
-                };
-          }
+        pub row-folded : r .answer ≡ 0 → (after : List ℕ) → after ≡ withHead (r .head) row → FoldRowPost row m room bytes ends answers 0 after n left
+        row-folded z after put =
+            let f = was-fit a m room bytes ends answers r n left post z in
+            record {
+              answer-is = sym (answered true (fits-row true f));
+              refused = λ (g : _≡_ {A = ℕ} 0 0 → ⊥). absurd (g refl);
+              folded = λ (g : _≡_ {A = ℕ} 0 0).
+                  record {
+                    head = r .head;
+                    post = subst (λ (b : Accumulator). FoldedPost b m room bytes ends answers (r .head) n left) (x .is-head) (post .folded f);
+                    row-left = put;
+                  };
+            }

@@ -1,11 +1,12 @@
 -- Many states in one slice, with their ends: what `filmoed_fold` promises.
 use mathlib.Core.Path.{_≡_}
 use mathlib.Core.List.{List, [], _∷_}
-use mathlib.Core.Bool.{Bool, true, cond, _&&_}
+use mathlib.Core.Bool.{Bool, true, false, cond, _&&_}
 use Prim.Native.Nat.{ℕ, _-_, _≤_}
 use lib.Dec.{leb}
 use lib.ListN.{length, take, drop}
 use Rattle.rollup.specs.declared.accumulator.Accumulator.{Accumulator}
+use Rattle.rollup.specs.declared.adding.Added.{Added}
 use Rattle.rollup.specs.Accumulator.{Mem, fits}
 use Rattle.rollup.specs.Adding.{Free}
 use Rattle.rollup.specs.Calls.{Call, Steps, Run}
@@ -50,6 +51,12 @@ FoldGoesOn =
     (a : Accumulator) (m : Mem) (room : ℕ) (bytes ends answers : List ℕ) (r : Accumulator) (n : Mem) (left : List ℕ)
     → FoldedPost a m room bytes ends answers r n left → (first : Mem) (calls : List Call) → Run first calls a m
     → Run first (addedAll room (splits bytes 0 ends) left calls) r n
+
+-- Question 1 once, and then the states. The answer is to that question; where it is no, nothing is changed.
+pub record FoldPost (a : Accumulator) (m : Mem) (room : ℕ) (bytes ends answers : List ℕ) (r : Added) (n : Mem) (left : List ℕ) : Type 0 where
+  pub answer : r .answer ≡ cond (fits a m) 0 1
+  pub refused : fits a m ≡ false → (r .head ≡ a) × (n ≡ m) × (left ≡ answers)
+  pub folded : fits a m ≡ true → FoldedPost a m room bytes ends answers (r .head) n left
 
 -- What the loop asks: a head that fits, ends that do, and a cell for each answer.
 pub record FoldPre (a : Accumulator) (m : Mem) (bytes ends answers : List ℕ) : Type 0 where

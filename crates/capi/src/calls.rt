@@ -9,7 +9,6 @@ use crate::folding;
 use crate::heads;
 use crate::heads::Head;
 use rollup::accumulator::Accumulator;
-use rollup::fitting;
 use rollup::writing;
 
 // Puts a fresh head into the row; 1 where it has no ten cells.
@@ -80,8 +79,7 @@ pub extern "C" fn filmoed_write(
 // The answer to a fold whose ends do not fit: one is before the last one or past the bytes, or has no cell for its answer. The papers' numbers end before 100.
 const BAD_ENDS: u8 = 100;
 
-// Adds many states: `states` has them one behind the other, `ends` where each one ends, and `answers` a cell for each answer. The arguments are judged first;
-// question 1 is asked once.
+// Adds many states: `states` has them one behind the other, `ends` where each one ends, and `answers` a cell for each answer. These arguments are judged first.
 #[no_mangle]
 pub extern "C" fn filmoed_fold(
     head: &mut [u64],
@@ -102,10 +100,7 @@ pub extern "C" fn filmoed_fold(
     let Head::Is(a) = h else {
         return 1;
     };
-    if !fitting::fits(a, &registers[..], &sparse[..], &pending[..]) {
-        return 1;
-    }
-    let r = folding::fold_states(
+    let r = folding::fold(
         a,
         registers,
         sparse,
@@ -115,6 +110,9 @@ pub extern "C" fn filmoed_fold(
         ends,
         answers,
     );
-    heads::put_head(head, r);
+    if r.answer != 0 {
+        return r.answer;
+    }
+    heads::put_head(head, r.head);
     0
 }

@@ -1,16 +1,15 @@
 // Many states, added one after the other: question 1 is asked once, and then each state goes to the form of `add` that need not scan. One state is a fold of one: with a
-// single call of `add_knowing` in the library LLVM puts its code into the loop, and the head stays where it is from turn to turn.
+// single call of `add_fitting` in the library LLVM puts its code into the loop, and the head stays where it is from turn to turn.
 ghost use mathlib.Core.Path.{_≡_};
-ghost use mathlib.Core.Bool.{_&&_};
+ghost use mathlib.Core.Bool.{true, _&&_};
 ghost use lib.Dec.{leb};
 ghost use lib.ListN.{length};
 ghost use Rattle.rollup.specs.Accumulator.{mem};
 ghost use Rattle.rollup.specs.Adding.{AddPost};
-ghost use Rattle.capi.specs.Folds.{endsFit, foldFits, FoldPre, FoldedPost};
+ghost use Rattle.capi.specs.Folds.{endsFit, foldFits, FoldPre, FoldedPost, FoldPost};
 use rollup::accumulator::Accumulator;
 use rollup::adding;
 use rollup::adding::Added;
-use rollup::adding::Fitting;
 use rollup::fitting;
 
 // Whether it was so before and `end` is not before `start`, with no branch in a loop.
@@ -47,7 +46,7 @@ pub(crate) fn fold_fits(bytes: &[u8], ends: &[u64], answers: &[u8]) -> bool
 }
 
 // Adds the states between the ends, and puts each answer into its cell.
-pub(crate) fn fold_states(
+fn fold_states(
     a: Accumulator,
     registers: &mut [u8],
     sparse: &mut [u32],
@@ -60,31 +59,61 @@ pub(crate) fn fold_states(
     requires { ⌜ FoldPre a (mem (now registers) (now sparse) (now pending)) (now bytes) (now ends) (now answers) ⌝ }
     ensures { λ r. ⌜ FoldedPost a (mem (now (registers .entry)) (now (sparse .entry)) (now (pending .entry))) (length (now (scratch .entry))) (now (bytes .entry)) (now (ends .entry)) (now (answers .entry)) r (mem (now (registers .exit)) (now (sparse .exit)) (now (pending .exit))) (now (answers .exit)) ⌝ }
 {
-    let mut fitting = Fitting {
-        head: a,
-        distinct: false,
-    };
+    let mut head = a;
+    let mut distinct = false;
     let mut start: usize = 0;
     let mut i: usize = 0;
     while i < ends.len() {
         let end = ends[i] as usize;
         let r = adding::add_fitting(
-            fitting,
+            head,
+            distinct,
             registers,
             sparse,
             pending,
             scratch,
             &bytes[start..end],
         );
-        fitting = r.left;
+        head = r.head;
+        distinct = r.distinct;
         answers[i] = r.answer;
         start = end;
         i += 1;
     }
-    fitting.head
+    head
 }
 
-// Adds one state: what `rollup::adding::add` promises, by the loop.
+// Question 1, once, and then the states. The answer is to that question; each state has its own.
+pub(crate) fn fold(
+    a: Accumulator,
+    registers: &mut [u8],
+    sparse: &mut [u32],
+    pending: &mut [u32],
+    scratch: &mut [u32],
+    bytes: &[u8],
+    ends: &[u64],
+    answers: &mut [u8],
+) -> Added
+    requires { ⌜ foldFits (now bytes) (now ends) (now answers) ≡ true ⌝ }
+    ensures { λ r. ⌜ FoldPost a (mem (now (registers .entry)) (now (sparse .entry)) (now (pending .entry))) (length (now (scratch .entry))) (now (bytes .entry)) (now (ends .entry)) (now (answers .entry)) r (mem (now (registers .exit)) (now (sparse .exit)) (now (pending .exit))) (now (answers .exit)) ⌝ }
+{
+    if !fitting::fits(a, &registers[..], &sparse[..], &pending[..]) {
+        return Added { answer: 1, head: a };
+    }
+    let head = fold_states(
+        a,
+        registers,
+        sparse,
+        pending,
+        scratch,
+        bytes,
+        ends,
+        answers,
+    );
+    Added { answer: 0, head }
+}
+
+// Adds one state: what `rollup::adding::add` promises, by a fold of one.
 pub(crate) fn add_one(
     a: Accumulator,
     registers: &mut [u8],
@@ -95,12 +124,9 @@ pub(crate) fn add_one(
 ) -> Added
     ensures { λ r. ⌜ AddPost a (mem (now (registers .entry)) (now (sparse .entry)) (now (pending .entry))) (length (now (scratch .entry))) (now (state .entry)) r (mem (now (registers .exit)) (now (sparse .exit)) (now (pending .exit))) ⌝ }
 {
-    if !fitting::fits(a, &registers[..], &sparse[..], &pending[..]) {
-        return Added { answer: 1, head: a };
-    }
     let ends = [state.len() as u64; 1];
     let mut answers = [0u8; 1];
-    let head = fold_states(
+    let r = fold(
         a,
         registers,
         sparse,
@@ -110,6 +136,10 @@ pub(crate) fn add_one(
         &ends,
         &mut answers,
     );
+    if r.answer != 0 {
+        return r;
+    }
+    let head = r.head;
     Added {
         answer: answers[0],
         head,

@@ -4,7 +4,7 @@ use mathlib.Core.List.{List, [], _∷_, _++_, append-nil}
 use mathlib.Core.Bool.{Bool, true, false, cond, true≢false}
 use mathlib.Core.Option.{Option, none, some}
 use mathlib.Core.Logic.{_⊎_, inl, inr}
-use Prim.Native.Nat.{ℕ, zero, suc, _+_, _*_, _-_, _%_, _^_, _<_, _≤_}
+use Prim.Native.Nat.{ℕ, zero, suc, _+_, _*_, _-_, _/_, _%_, _^_, _<_, _≤_}
 use native.Mathlib.Nat.{lt-of-le-of-lt}
 use native.Mathlib.Numerals.{add-one}
 use native.Mathlib.Omega.{arith}
@@ -24,7 +24,7 @@ use Rattle.console.specs.declared.input.Stream.the-variants.{All, Failed
 use Rattle.console.specs.declared.input.Arrived.{Arrived}
 use Rattle.console.specs.declared.input.Reading.{Reading}
 use Rattle.console.specs.declared.input.Reading.the-variants.{More, Done}
-use Rattle.console.specs.Input.{soFar, readingOf, ArrivedIn, StreamPost, BytesPost, upTo, digitOf, decimalFrom, decimalOf, below64, consTo, byteThen, hexOf, onto}
+use Rattle.console.specs.Input.{soFar, readingOf, ArrivedIn, StreamPost, FrontOnly, BytesPost, upTo, digitOf, decimalFrom, decimalOf, below64, consTo, byteThen, hexOf, onto}
 
 -- One of two numbers is the smaller.
 pub side : (a b : ℕ) → (a < b) ⊎ (b ≤ a)
@@ -188,9 +188,22 @@ pub hex-end : (word done : List ℕ) (k : ℕ) → length word ≤ k → onto do
 unfolding hexOf
 hex-end word done k h = ap (λ (l : List ℕ). onto done (hexOf l)) (drop-of-length-le word h) ∙ ap some (append-nil done)
 
+-- Where all cells from i on are as they were, so are those further on.
+drop-further : (out before : List ℕ) (i k : ℕ) → drop i out ≡ drop i before → drop (i + k) out ≡ drop (i + k) before
+drop-further out before i k e = sym (drop-drop k i out) ∙ ap (drop k) e ∙ drop-drop k i before
+
 -- What is behind a stored cell is as it was.
 pub drop-next : (out before : List ℕ) (i x : ℕ) → drop i out ≡ drop i before → drop (i + 1) (set out i x) ≡ drop (i + 1) before
-drop-next out before i x e = drop-set-lt (i + 1) out i x (omega arith) ∙ sym (drop-drop 1 i out) ∙ ap (drop 1) e ∙ drop-drop 1 i before
+drop-next out before i x e = drop-set-lt (i + 1) out i x (omega arith) ∙ drop-further out before i 1 e
+
+-- What a word that is refused leaves, where i cells were put for at least two bytes each.
+pub refused-free : (word out before : List ℕ) (i : ℕ) → 2 * i ≤ length word → drop i out ≡ drop i before → length out ≡ length before
+    → FrontOnly (length word / 2) before out
+refused-free word out before i h e same = (
+  subst (λ (n : ℕ). drop n out ≡ drop n before) (let n : i + (length word / 2 - i) ≡ length word / 2 = omega arith in n)
+      (drop-further out before i (length word / 2 - i) e),
+  same,
+)
 
 -- All pairs are read.
 pub hex-done : (word before out : List ℕ) (i n : ℕ)
@@ -199,10 +212,11 @@ pub hex-done : (word before out : List ℕ) (i n : ℕ)
     → n ≤ length out
     → hexOf word ≡ onto (take i out) (hexOf (drop (2 * i) word))
     → drop i out ≡ drop i before
-    → (hexOf word ≡ some (take n out)) × (drop n out ≡ drop n before) × Counts n out
-hex-done word before out i n e l room whole rest = (
+    → length out ≡ length before
+    → BytesPost word before (Count n) out
+hex-done word before out i n e l room whole rest same = (
   subst (λ (k : ℕ). hexOf word ≡ onto (take k out) (hexOf (drop (2 * k) word))) e whole ∙ hex-end word (take n out) (2 * n) l,
-  subst (λ (k : ℕ). drop k out ≡ drop k before) e rest,
+  (subst (λ (k : ℕ). drop k out ≡ drop k before) e rest, same),
   (room, sym (length-take-le n out room)),
 )
 

@@ -25,8 +25,8 @@ use Rattle.console.proofs.InputLaws.{not-some, onto-nothing, onto-store
 pub front : (n : ℕ) (out : List ℕ) → n ≤ length out → Counts n out
 front n out h = (h, sym (length-take-le n out h))
 
-pub listed : (l : Option (List ℕ)) (out : List ℕ) (r : Listed) (n : ℕ) → r ≡ Count n → ListedPost l r out → Counts n out
-listed l out r n e p = subst (λ (x : Listed). ListedPost l x out) e p .1
+pub listed : (l : Option (List ℕ)) (word before out : List ℕ) (r : Listed) (n : ℕ) → r ≡ Count n → ListedPost l word before r out → Counts n out
+listed l word before out r n e p = subst (λ (x : Listed). ListedPost l word before x out) e p .2
 
 -- ---- words
 
@@ -137,6 +137,11 @@ values-more (suc room) (b ∷ l) r h =
 
 pub values-start : (word out : List ℕ) (room : ℕ) → valuesIn room word ≡ onto (take 0 out) (valuesIn (room - 0) (drop 0 word))
 values-start word out room = onto-nothing (valuesIn room word) ∙ ap (λ (n : ℕ). onto [] (valuesIn n word)) (let e : room ≡ room - 0 = omega arith in e)
+
+-- A number that was read has a byte at least.
+pub value-long : (l : List ℕ) (k v : ℕ) (r : Value) → r ≡ Is v → valueMeans r ≡ below32 (decimalOf (take k l)) → 0 < k
+value-long l zero v r o m = not-some (sym (ap valueMeans (sym o) ∙ m))
+value-long l (suc k) v r o m = omega arith
 
 -- What is left of a word from `at` on, where n values stand at the front of `out`.
 module _ (word out : List ℕ) (room n at : ℕ) (whole : valuesIn room word ≡ onto (take n out) (valuesIn (room - n) (drop at word))) where

@@ -34,6 +34,15 @@ readingOf n (pos k) len = cond (ltb (n + k) len) (soFar k n) (Done Full)
 abbrev pub ArrivedIn : List ℕ → Arrived → Type 0
 ArrivedIn buf r = readingOf (r .before) (r .got) (length buf) ≡ Done (r .stream)
 
+-- What `read_all` answers and leaves. What is free is named in `free`: the buffer holds anything, and as many bytes as before.
+pub record ReadPost (buf : List ℕ) (r : Arrived) (after : List ℕ) : Type 0 where
+  pub arrived : ArrivedIn after r
+  pub free : length after ≡ length buf
+
+-- A count of bytes at the front of the buffer, which is free as `read_all` leaves it.
+abbrev pub CasesPost : List ℕ → ℕ → List ℕ → Type 0
+CasesPost buf n after = Counts n after × (length after ≡ length buf)
+
 -- Of a whole stream, that it is shorter than the buffer: one that fills it never passes as whole. Which bytes came, and which of the three it is, nothing can say.
 abbrev pub StreamPost : List ℕ → Stream → Type 0
 StreamPost buf (All n) = (n < length buf) × Counts n buf
@@ -99,7 +108,12 @@ hexOf [] = some []
 hexOf (a ∷ []) = none
 hexOf (a ∷ b ∷ l) = byteThen (digitOf a) (digitOf b) (hexOf l)
 
--- The bytes stand at the front, and the rest is as it was; or the word is no byte string, or one too long for the buffer.
+-- At most the first n cells have changed: those past them are as they were, and there are as many as before.
+abbrev pub FrontOnly : ℕ → List ℕ → List ℕ → Type 0
+FrontOnly n before after = (drop n after ≡ drop n before) × (length after ≡ length before)
+
+-- The bytes stand at the front, and the rest is as it was. Or the word is no byte string: as many cells as it has pairs of digits are free, and hold anything.
+-- Or it is one too long for the buffer, which is as it was.
 abbrev pub BytesPost : List ℕ → List ℕ → Bytes → List ℕ → Type 0
-BytesPost word out (Count n) after = (hexOf word ≡ some (take n after)) × (drop n after ≡ drop n out) × Counts n after
-BytesPost word out BytesOther after = (hexOf word ≡ none) ⊎ (length out < length word / 2)
+BytesPost word out (Count n) after = (hexOf word ≡ some (take n after)) × FrontOnly n out after × Counts n after
+BytesPost word out BytesOther after = ((hexOf word ≡ none) × FrontOnly (length word / 2) out after) ⊎ ((length out < length word / 2) × (after ≡ out))

@@ -3,7 +3,7 @@ use mathlib.Core.Path.{_≡_}
 use mathlib.Core.List.{List, [], _∷_}
 use mathlib.Core.Bool.{cond}
 use mathlib.Core.Option.{Option, none, some}
-use Prim.Native.Nat.{ℕ, zero, suc, _+_, _^_, _≤_}
+use Prim.Native.Nat.{ℕ, zero, suc, _+_, _/_, _^_, _≤_}
 use lib.Dec.{ltb, eqb}
 use lib.ListN.{length, take, drop}
 use Rattle.io.specs.Counts.{Counts}
@@ -11,7 +11,7 @@ use Rattle.console.specs.declared.text.Value.{Value}
 use Rattle.console.specs.declared.text.Value.the-variants.{Is, Other as ValueOther}
 use Rattle.console.specs.declared.text.Listed.{Listed}
 use Rattle.console.specs.declared.text.Listed.the-variants.{Count, Other}
-use Rattle.console.specs.Input.{upTo, decimalOf, consTo}
+use Rattle.console.specs.Input.{upTo, decimalOf, consTo, FrontOnly}
 
 -- A line from the word on that has k others before it. A blank, 32, ends a word.
 unfoldable pub wordsFrom : ℕ → List ℕ → List ℕ
@@ -55,7 +55,8 @@ abbrev pub listIn : ℕ → List ℕ → Option (List ℕ)
 listIn room [] = none
 listIn room (b ∷ l) = cond (eqb b 46) (some []) (valuesIn room (b ∷ l))
 
--- The values of the definition's answer stand at the front, and the answer is how many they are; or there are none.
-abbrev pub ListedPost : Option (List ℕ) → Listed → List ℕ → Type 0
-ListedPost l (Count n) after = (l ≡ some (take n after)) × Counts n after
-ListedPost l Other after = l ≡ none
+-- The values of the definition's answer stand at the front, the answer is how many they are, and the rest is as it was. Or there are none: a value that was put
+-- takes two bytes of the word with its comma, so as many cells as it has pairs of bytes are free, and hold anything.
+abbrev pub ListedPost : Option (List ℕ) → (word out : List ℕ) → Listed → List ℕ → Type 0
+ListedPost l word out (Count n) after = (l ≡ some (take n after)) × FrontOnly n out after × Counts n after
+ListedPost l word out Other after = (l ≡ none) × FrontOnly (length word / 2) out after

@@ -1,8 +1,7 @@
 // Reading a stream into a buffer, then lines, words, numbers and byte strings.
 ghost use mathlib.Core.Path.{_≡_};
 ghost use Prim.Native.Nat.{_≤_, _<_};
-ghost use Rattle.io.specs.Counts.{Counts};
-ghost use Rattle.console.specs.Input.{DigitPost, FindPost, NumberPost, BytesPost, readingOf, ArrivedIn};
+ghost use Rattle.console.specs.Input.{DigitPost, FindPost, NumberPost, BytesPost, readingOf, ReadPost, CasesPost};
 use libc::STDERR_FILENO;
 use libc::STDIN_FILENO;
 
@@ -72,7 +71,7 @@ fn piece_end(n: usize, len: usize) -> usize
 
 // Reads to the end. What a read puts into the buffer, and that the answer that is handed on is a read's, no contract reaches: so little else stands here.
 pub fn read_all(fd: i32, buf: &mut [u8]) -> Arrived
-    ensures { λ r. ⌜ ArrivedIn (now (buf .exit)) r ⌝ }
+    ensures { λ r. ⌜ ReadPost (now (buf .entry)) r (now (buf .exit)) ⌝ }
 {
     let mut n: usize = 0;
     loop {
@@ -93,7 +92,7 @@ pub fn read_all(fd: i32, buf: &mut [u8]) -> Arrived
 
 // The cases that a program replays: how many bytes of standard input. Where it cannot be read to its end there are none, and the program says so.
 pub fn read_cases(program: &[u8], buf: &mut [u8]) -> usize
-    ensures { λ r. ⌜ Counts r (now (buf .exit)) ⌝ }
+    ensures { λ r. ⌜ CasesPost (now (buf .entry)) r (now (buf .exit)) ⌝ }
 {
     let r = read_all(STDIN_FILENO, buf);
     let stream = r.stream;

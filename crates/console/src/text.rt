@@ -92,7 +92,7 @@ pub fn number(word: &[u8]) -> u64
 
 // Decimal numbers with commas between them, put at the front of `out`.
 fn read_values(word: &[u8], out: &mut [u32]) -> Listed
-    ensures { λ r. ⌜ ListedPost (valuesIn (length (now (out .entry))) (now (word .entry))) r (now (out .exit)) ⌝ }
+    ensures { λ r. ⌜ ListedPost (valuesIn (length (now (out .entry))) (now (word .entry))) (now (word .entry)) (now (out .entry)) r (now (out .exit)) ⌝ }
 {
     let mut n: usize = 0;
     let mut at: usize = 0;
@@ -114,7 +114,7 @@ fn read_values(word: &[u8], out: &mut [u32]) -> Listed
 
 // A list: `.` is the empty one.
 pub fn read_list(word: &[u8], out: &mut [u32]) -> Listed
-    ensures { λ r. ⌜ ListedPost (listIn (length (now (out .entry))) (now (word .entry))) r (now (out .exit)) ⌝ }
+    ensures { λ r. ⌜ ListedPost (listIn (length (now (out .entry))) (now (word .entry))) (now (word .entry)) (now (out .entry)) r (now (out .exit)) ⌝ }
 {
     if word.len() == 0 {
         return Listed::Other;

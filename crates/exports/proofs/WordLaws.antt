@@ -64,8 +64,8 @@ pub hex-whole : (word old after : List ℕ) (i n : ℕ) → i ≡ n → length w
     → hexOf (lowered word) ≡ onto (take i after) (hexOf (drop (2 * i) (lowered word))) → length after ≡ length old → drop i after ≡ drop i old
     → HexDecodedPost word old (Count n) after
 hex-whole word old after i n e short room whole same rest =
-    let d = hex-done (lowered word) old after i n e (omega (arith, lowered-length word)) room whole rest in
-    record { decoded = record { answer = (d .0, d .2); free = same }; untouched = d .1 }
+    let d = hex-done (lowered word) old after i n e (omega (arith, lowered-length word)) room whole rest same in
+    record { decoded = record { answer = (d .0, d .2); free = same }; untouched = d .1 .0 }
 
 -- ---- for callers
 

@@ -1,26 +1,27 @@
 -- Laws of testing a list value by value: the whole is what was found so far and what the rest makes of it.
-use Prim.Native.Nat.{ℕ, zero, suc, _+_, _-_, _^_, _<_, _≤_}
+use Prim.Native.Nat.{ℕ, suc, _+_, _-_, _^_, _<_, _≤_}
 use mathlib.Core.Path.{_≡_, refl, sym, ap, _∙_}
 use mathlib.Core.List.{List, [], _∷_}
 use mathlib.Core.Bool.{Bool, true, false, _&&_, and-assoc, and-true}
 use native.Mathlib.Omega.{arith}
 use native.Mathlib.Numerals.{add-one}
-use lib.ListN.{length, getD, take, drop, drop-of-length-le}
+use lib.ListN.{length, getD, take, drop, drop-of-length-le, take-append-drop}
 use lib.Seq.{drop-cons, take-all}
 use lib.Dec.{leb}
 use borrow.Author.Tests.{le-leb}
+use Rattle.wire.proofs.BoolLaws.{absorbed}
 use Rattle.lists.specs.Values.{mark, valid}
 use Rattle.lists.specs.Sorting.{notBefore, ascends}
 use Rattle.lists.specs.Order.{Ascending, Below, lastOf}
 use Rattle.lists.specs.Lists.{allValid}
 use Rattle.lists.proofs.ValueLaws.{below-mark, valid-plain}
-use Rattle.lists.proofs.DecodingLaws.{small-valid}
+use Rattle.lists.proofs.DecodingLaws.{small-valid, all-append}
 use Rattle.lists.proofs.OrderLaws.{ascending}
 use Rattle.lists.proofs.SortingLaws.{last-take}
 
 -- One test more was made.
-pub one-more : (all next ok rest : Bool) → next ≡ (all && ok) → (all && (ok && rest)) ≡ (next && rest)
-one-more all next ok rest e = sym (and-assoc all ok rest) ∙ ap (λ (t : Bool). t && rest) (sym e)
+pub test-more : (all next ok rest : Bool) → next ≡ (all && ok) → (all && (ok && rest)) ≡ (next && rest)
+test-more all next ok rest e = sym (and-assoc all ok rest) ∙ ap (λ (t : Bool). t && rest) (sym e)
 
 -- ---- every value is valid
 
@@ -33,7 +34,7 @@ module _ (p s : ℕ) (l : List ℕ) (i : ℕ) (all : Bool) where
       → (all && allValid p s (drop i l)) ≡ (next && allValid p s (drop (i + 1) l))
   valid-turn next ok h e f =
       ap (λ (t : Bool). all && t) (valid-step h)
-      ∙ one-more all next (valid p s (getD l i 0)) (allValid p s (drop (i + 1) l)) (f ∙ ap (λ (t : Bool). all && t) e)
+      ∙ test-more all next (valid p s (getD l i 0)) (allValid p s (drop (i + 1) l)) (f ∙ ap (λ (t : Bool). all && t) e)
 
   pub valid-end : length l ≤ i → (all && allValid p s (drop i l)) ≡ all
   unfolding allValid
@@ -55,18 +56,13 @@ module _ (l : List ℕ) (i : ℕ) (all : Bool) where
       → (all && notBefore (getD l (i - 1) 0) (drop i l)) ≡ (next && notBefore (getD l (i + 1 - 1) 0) (drop (i + 1) l))
   rising-turn next h e =
       ap (λ (t : Bool). all && t) (rising-step (getD l (i - 1) 0) h)
-      ∙ one-more all next (leb (getD l (i - 1) 0) (getD l i 0)) (notBefore (getD l i 0) (drop (i + 1) l)) e
+      ∙ test-more all next (leb (getD l (i - 1) 0) (getD l i 0)) (notBefore (getD l i 0) (drop (i + 1) l)) e
       ∙ ap (λ (n : ℕ). next && notBefore (getD l n 0) (drop (i + 1) l)) (let f : i ≡ i + 1 - 1 = omega arith in f)
 
   pub rising-end : length l ≤ i → (all && notBefore (getD l (i - 1) 0) (drop i l)) ≡ all
   rising-end h = ap (λ (t : List ℕ). all && notBefore (getD l (i - 1) 0) t) (drop-of-length-le l h) ∙ and-true all
 
 -- ---- every value of an ascending list is valid
-
-absorbed : (a b : Bool) → (b ≡ true → a ≡ true) → (a && b) ≡ b
-absorbed true b f = refl
-absorbed false true f = f refl
-absorbed false false f = refl
 
 last-least : (n : ℕ) (l : List ℕ) → Ascending n l → n ≤ lastOf n l
 last-least n [] a = omega arith
@@ -104,11 +100,7 @@ module _ (p s : ℕ) where
 
   -- Of two parts.
   valid-parts : (m : ℕ) (l : List ℕ) → allValid p s l ≡ (allValid p s (take m l) && allValid p s (drop m l))
-  unfolding allValid
-  valid-parts zero l = refl
-  valid-parts (suc m) [] = refl
-  valid-parts (suc m) (x ∷ l) =
-      ap (λ (t : Bool). valid p s x && t) (valid-parts m l) ∙ sym (and-assoc (valid p s x) (allValid p s (take m l)) (allValid p s (drop m l)))
+  valid-parts m l = ap (allValid p s) (sym (take-append-drop m l)) ∙ all-append p s (take m l) (drop m l)
 
   pub parts-no : (m : ℕ) (l : List ℕ) → allValid p s (take m l) ≡ false → false ≡ allValid p s l
   parts-no m l e = sym (valid-parts m l ∙ ap (λ (t : Bool). t && allValid p s (drop m l)) e)

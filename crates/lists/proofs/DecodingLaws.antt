@@ -1,22 +1,20 @@
--- Laws of reading lists: a gap byte by byte, one value after another, what an accepted list is, and that what is written is read back.
-use Prim.Native.Nat.{ℕ, zero, suc, _+_, _*_, _-_, _/_, _%_, _^_, _<_, _≤_}
+-- Laws of reading lists: a gap, one value after another, what an accepted list is, and that what is written is read back.
+use Prim.Native.Nat.{ℕ, zero, suc, _+_, _*_, _-_, _%_, _^_, _<_, _≤_}
 use mathlib.Core.Path.{_≡_, refl, sym, ap, ap₂, _∙_, subst}
 use mathlib.Core.List.{List, [], _∷_, _++_, append-assoc, append-nil}
 use mathlib.Core.Bool.{Bool, true, false, cond, _&&_, _||_, and-assoc, and-true, true≢false}
 use mathlib.Core.Logic.{_⊎_, inl, inr, ⊎-elim}
-use native.Mathlib.Nat.{mul-add, mul-comm, mul-assoc}
 use native.Mathlib.Numerals.{add-one}
 use native.Mathlib.Omega.{arith}
-use lib.Arith.{digits-lt}
 use lib.ListN.{length, set, drop, take, getD, drop-of-length-le, length-drop, length-append}
 use lib.Seq.{length-take-le, take-suc-set}
 use lib.Pow.{pow-pos}
 use lib.Dec.{ltb, leb, eqb}
 use borrow.Author.Tests.{lt-ltb, le-ltb, le-leb, ltb-true, ltb-false, leb-true}
-use Rattle.wire.proofs.BoolLaws.{both, both-true, whichever}
+use Rattle.wire.proofs.BoolLaws.{both, both-true, absorbed, whichever}
 use Rattle.wire.specs.Reading.{Read, got, refused, andThen}
-use Rattle.wire.specs.Varints.{varintOf, varintBytes, payload}
-use Rattle.wire.proofs.VarintLaws.{side, weighed, varint-none, varint-end, varint-last, varint-more, len-last, len-more, len-pos, there-and-back}
+use Rattle.wire.specs.Varints.{varintOf, varintBytes}
+use Rattle.wire.proofs.VarintLaws.{side, Begun, begun-long, begun-end, begun-last, begun-more, len-pos, there-and-back, short-varint}
 use denote.Enum.Declared as E
 use Rattle.lists.proofs.decoding.Gap.{enum as gap-enum}
 use Rattle.lists.proofs.decoding.Step.{enum as step-enum}
@@ -27,10 +25,10 @@ use Rattle.lists.specs.declared.decoding.Step.the-variants.{Next, Refuse
 use Rattle.lists.specs.declared.decoding.Decoded.the-variants.{Done, Refused}
 use Rattle.lists.specs.Values.{marked, valid, Pair}
 use Rattle.lists.specs.Sorting.{notBefore, ascends}
-use Rattle.lists.specs.Lists.{gapAnswer, gapOf, GapPost, gapRefusal, refusedHere, before, sumsOf, stepOf, stepRefusal, StepPost, allValid, decodeOf, Decodes, encodeFrom, encodeList, writtenFrom, written}
+use Rattle.lists.specs.Lists.{gapAnswer, gapOf, GapPost, gapRefusal, refusedHere, before, sumsOf, stepOf, stepRefusal, NextValuePost, allValid, laterPlain, endsValid, decodeOf, Decodes, encodeFrom, encodeList, writtenFrom, written}
 use Rattle.lists.proofs.ValueLaws.{decided, mark-sparse, below-mark, plain-valid, valid-plain, marked-valid, valid-index, valid-low, valid-lt}
 
--- ---- a gap, byte by byte
+-- ---- a gap
 
 gap-is : (l : List ℕ) (r : Read ℕ) → varintOf 5 l ≡ r → gapAnswer r ≡ gapOf l
 unfolding gapOf
@@ -42,95 +40,29 @@ gap-small v rest h = rw (lt-ltb v (2 ^ 32) h)
 gap-large : (v : ℕ) (rest : List ℕ) → 2 ^ 32 ≤ v → gapAnswer (got v rest) ≡ refused 19
 gap-large v rest h = rw (le-ltb v (2 ^ 32) h)
 
-module _ {s : List ℕ} {at : ℕ} where
-  cut-post : varintOf 5 (drop at s) ≡ refused 3 → GapPost s at Cut
-  cut-post e = record { answer = gap-is (drop at s) (refused 3) e; inside = tt }
+module _ {s : List ℕ} {start at w x : ℕ} (n : ℕ) (g : Begun 5 s start at (suc n) w x) where
+  pub gap-cut : length s ≤ at → GapPost s start Cut
+  gap-cut h = record { answer = gap-is (drop start s) (refused 3) (begun-end n g h); inside = tt }
 
-  long-post : varintOf 5 (drop at s) ≡ refused 4 → GapPost s at Long
-  long-post e = record { answer = gap-is (drop at s) (refused 4) e; inside = tt }
-
-  high-post : (v : ℕ) (rest : List ℕ) → varintOf 5 (drop at s) ≡ got v rest → 2 ^ 32 ≤ v → GapPost s at Long
-  high-post v rest e h = record { answer = sym (gap-large v rest h) ∙ gap-is (drop at s) (got v rest) e; inside = tt }
-
-  value-post : (v next : ℕ) → varintOf 5 (drop at s) ≡ got v (drop next s) → v < 2 ^ 32 → at < next → next ≤ length s → GapPost s at (Value v next)
-  value-post v next e h lo hi =
-      record { answer = sym (gap-small v (drop next s) h) ∙ gap-is (drop at s) (got v (drop next s)) e; inside = (lo, hi) }
-
--- b is the byte at `at`, as the reader has it
-module _ (s : List ℕ) (at n : ℕ) {b : ℕ} (inside : at < length s) (e : b ≡ getD s at 0) where
-  byte-last : b < 128 → varintOf (suc n) (drop at s) ≡ got b (drop (at + 1) s)
-  byte-last l = varint-last s at n inside (subst (λ (y : ℕ). y < 128) e l) ∙ ap (λ (y : ℕ). got y (drop (at + 1) s)) (sym e)
-
-  byte-more : 128 ≤ b → b < 256 → varintOf (suc n) (drop at s) ≡ payload (b - 128) (varintOf n (drop (at + 1) s))
-  byte-more l u =
-      varint-more s at n inside (subst (λ (y : ℕ). 128 ≤ y) e l)
-      ∙ ap (λ (y : ℕ). payload y (varintOf n (drop (at + 1) s))) (let f : getD s at 0 % 128 ≡ b - 128 = omega arith in f)
-
--- Where the reader of a gap of more than one byte is: those before `at` have the value x, and what the rest reads as, in at most n bytes,
--- weighs w.
-pub record Begun (s : List ℕ) (start at n w x : ℕ) : Type 0 where
-  pub on : start < at
-  pub small : x < w
-  pub whole : varintOf 5 (drop start s) ≡ weighed w x (varintOf n (drop at s))
-
--- One payload more.
-weighed-more : (w x y : ℕ) (r : Read ℕ) → weighed w x (payload y r) ≡ weighed (w * 128) (x + y * w) r
-weighed-more w x y (got v l) =
-    ap (λ (z : ℕ). got z l)
-    (let e : x + w * (y + 128 * v) ≡ x + y * w + w * 128 * v = omega (arith, mul-add w y (128 * v), mul-comm y w, mul-assoc w 128 v) in e)
-weighed-more w x y (refused n) = refl
-
--- A first byte of 128 or more has the lowest payload.
-weighed-first : (y : ℕ) (r : Read ℕ) → payload y r ≡ weighed 128 y r
-weighed-first y (got v l) = refl
-weighed-first y (refused n) = refl
-
--- The first byte.
-module _ {s : List ℕ} {at : ℕ} where
-  pub gap-end : length s ≤ at → GapPost s at Cut
-  gap-end h = cut-post (varint-end s at 4 h)
-
-  module _ {b : ℕ} (inside : at < length s) (e : b ≡ getD s at 0) where
-    pub gap-one : b < 128 → GapPost s at (Value b (at + 1))
-    gap-one l = value-post b (at + 1) (byte-last s at 4 inside e l) (omega arith) (omega arith) (omega arith)
-
-    pub gap-begun : 128 ≤ b → b < 256 → Begun s at (at + 1) 4 128 (b - 128)
-    gap-begun l u =
-        record { on = omega arith; small = omega arith; whole = byte-more s at 4 inside e l u ∙ weighed-first (b - 128) (varintOf 4 (drop (at + 1) s)) }
-
--- The others.
-module _ {s : List ℕ} {start at w x : ℕ} (n : ℕ) (g : Begun s start at (suc n) w x) where
-  pub begun-end : length s ≤ at → GapPost s start Cut
-  begun-end h = cut-post (g .whole ∙ ap (weighed w x) (varint-end s at n h))
-
-  module _ {b : ℕ} (inside : at < length s) (e : b ≡ getD s at 0) where
-    last-is : b < 128 → varintOf 5 (drop start s) ≡ got (x + b * w) (drop (at + 1) s)
-    last-is l =
-        g .whole ∙ ap (weighed w x) (byte-last s at n inside e l) ∙ ap (λ (y : ℕ). got (x + y) (drop (at + 1) s)) (mul-comm w b)
-
-    pub begun-last : b < 128 → x + b * w < 2 ^ 32 → GapPost s start (Value (x + b * w) (at + 1))
-    begun-last l h = value-post (x + b * w) (at + 1) (last-is l) h (omega (arith, g .on)) (omega arith)
-
-    more-is : 128 ≤ b → b < 256 → varintOf 5 (drop start s) ≡ weighed (w * 128) (x + (b - 128) * w) (varintOf n (drop (at + 1) s))
-    more-is l u = g .whole ∙ ap (weighed w x) (byte-more s at n inside e l u) ∙ weighed-more w x (b - 128) (varintOf n (drop (at + 1) s))
-
-    pub begun-more : 128 ≤ b → b < 256 → Begun s start (at + 1) n (w * 128) (x + (b - 128) * w)
-    begun-more l u =
-        record {
-          on = omega (arith, g .on);
-          small =
-              let d = digits-lt {q = b - 128} {m = 128} (let h : b - 128 < 128 = omega arith in h) (g .small) in
-              omega (arith, d, mul-comm 128 w);
-          whole = more-is l u;
-        }
+  pub gap-last : {b v : ℕ} → at < length s → b ≡ getD s at 0 → b < 128 → v ≡ x + b * w → v < 2 ^ 32 → GapPost s start (Value v (at + 1))
+  gap-last {b} {v} inside e l f h =
+      record {
+        answer =
+            sym (gap-small v (drop (at + 1) s) h)
+            ∙ gap-is (drop start s) (got v (drop (at + 1) s)) (begun-last n g inside e l ∙ ap (λ (y : ℕ). got y (drop (at + 1) s)) (sym f));
+        inside = (omega (arith, g .on), omega arith);
+      }
 
 -- A fifth byte with a bit of f0: of 16 to 127 it makes a value of 2^32 or more, and of 128 or more one of more than five bytes.
-pub begun-long : {s : List ℕ} {start at x b : ℕ} → Begun s start at 1 0x1000_0000 x → at < length s → b ≡ getD s at 0 → 16 ≤ b → b < 256
-    → GapPost s start Long
-begun-long {s} {start} {at} {x} {b} g inside e h u =
-    ⊎-elim (λ (l : b < 128). high-post (x + b * 0x1000_0000) (drop (at + 1) s) (last-is 0 g inside e l) (omega arith))
-    (λ (l : 128 ≤ b). long-post (more-is 0 g inside e l u ∙ ap (weighed 0x8_0000_0000 (x + (b - 128) * 0x1000_0000)) (varint-none (drop (at + 1) s))))
-    (side b 128)
+pub gap-long : {s : List ℕ} {start at x b : ℕ} → Begun 5 s start at 1 0x1000_0000 x → at < length s → b ≡ getD s at 0 → 16 ≤ b → GapPost s start Long
+gap-long {s} {start} {at} {x} {b} g inside e h =
+    ⊎-elim
+    (λ (l : b < 128).
+    long (sym (gap-large (x + b * 0x1000_0000) (drop (at + 1) s) (omega arith)) ∙ gap-is (drop start s) _ (begun-last 0 g inside e l)))
+    (λ (l : 128 ≤ b). long (gap-is (drop start s) (refused 4) (begun-long (begun-more 0 g inside e l refl)))) (side b 128)
+  where
+    long : refused 19 ≡ gapOf (drop start s) → GapPost s start Long
+    long f = record { answer = f; inside = tt }
 
 -- ---- tests
 
@@ -169,19 +101,22 @@ module _ (p s last v : ℕ) where
 pub small-valid : (p s v : ℕ) → v < 2 ^ s → valid p s v ≡ true
 small-valid p s v h = plain-valid p s v (below-mark p s v (omega (arith, mark-sparse p s))) h
 
+pub all-append : (p s : ℕ) (a b : List ℕ) → allValid p s (a ++ b) ≡ (allValid p s a && allValid p s b)
+unfolding allValid
+all-append p s [] b = refl
+all-append p s (v ∷ a) b = ap (λ (t : Bool). valid p s v && t) (all-append p s a b) ∙ sym (and-assoc (valid p s v) (allValid p s a) (allValid p s b))
+
 all-more : (p s : ℕ) (vs : List ℕ) (v : ℕ) → allValid p s (vs ++ (v ∷ [])) ≡ (allValid p s vs && valid p s v)
 unfolding allValid
-all-more p s [] v = and-true (valid p s v)
-all-more p s (w ∷ vs) v = ap (λ (t : Bool). valid p s w && t) (all-more p s vs v) ∙ sym (and-assoc (valid p s w) (allValid p s vs) (valid p s v))
+all-more p s vs v = all-append p s vs (v ∷ []) ∙ ap (λ (t : Bool). allValid p s vs && t) (and-true (valid p s v))
 
 -- Of values that do not descend, and of which none was refused where it was read: the last one, and the last with the mark bit clear, or 0
 -- where there is none. Where these two are valid, all are: no plain value is above the last one, and no marked one's index.
 pub record Checked (p s : ℕ) (vs : List ℕ) (last plain : ℕ) : Type 0 where
   pub below : plain ≤ last
   pub clear : marked p s last ≡ false → last ≡ plain
-  pub rank : marked p s last ≡ true → last % 64 ≤ 65 - s
-  pub all : valid p s plain ≡ true → valid p s last ≡ true → allValid p s vs ≡ true
-  pub each : allValid p s vs ≡ true → (valid p s plain ≡ true) × (valid p s last ≡ true)
+  pub low : marked p s last ≡ true → last % 64 ≤ 65 - s
+  pub ends : endsValid p s plain last ≡ allValid p s vs
 
 checked-none : (p s : ℕ) → Checked p s [] 0 0
 unfolding allValid
@@ -189,10 +124,14 @@ checked-none p s =
     record {
       below = omega arith;
       clear = λ e. refl;
-      rank = λ e. omega arith;
-      all = λ e f. refl;
-      each = λ e. (small-valid p s 0 (pow-pos s), small-valid p s 0 (pow-pos s));
+      low = λ e. omega arith;
+      ends = both (small-valid p s 0 (pow-pos s)) (small-valid p s 0 (pow-pos s));
     }
+
+-- The middle one of three follows from the others.
+middle : (a b c : Bool) → (a ≡ true → c ≡ true → b ≡ true) → (a && c) ≡ ((a && b) && c)
+middle true b c f = sym (absorbed b c (f refl))
+middle false b c f = refl
 
 module _ {p s : ℕ} {vs : List ℕ} {last plain : ℕ} (c : Checked p s vs last plain) (v : ℕ) (here : refusedHere p s last v ≡ false) where
   -- What comes before a valid value with the mark bit clear is below 2^s, as that is.
@@ -203,27 +142,24 @@ module _ {p s : ℕ} {vs : List ℕ} {last plain : ℕ} (c : Checked p s vs last
   before-marked m e t =
       ⊎-elim
       (λ (g : marked p s last ≡ true).
-      marked-valid p s last g (omega (arith, valid-index p s v m t, not-less p s last v here)) (c .rank g))
+      marked-valid p s last g (omega (arith, valid-index p s v m t, not-less p s last v here)) (c .low g))
       (λ (g : marked p s last ≡ false). subst (λ (x : ℕ). valid p s x ≡ true) (sym (c .clear g)) e) (decided (marked p s last))
 
-  whole-valid : allValid p s vs ≡ true → valid p s v ≡ true → allValid p s (vs ++ (v ∷ [])) ≡ true
-  whole-valid e f = all-more p s vs v ∙ both e f
-
-  front-valid : allValid p s (vs ++ (v ∷ [])) ≡ true → allValid p s vs ≡ true
-  front-valid e = both-true (allValid p s vs) (valid p s v) (sym (all-more p s vs v) ∙ e) .0
-
-  last-valid : allValid p s (vs ++ (v ∷ [])) ≡ true → valid p s v ≡ true
-  last-valid e = both-true (allValid p s vs) (valid p s v) (sym (all-more p s vs v) ∙ e) .1
+  -- The two of one value more decide, where those before do.
+  ends-more : (q : ℕ) → endsValid p s q v ≡ (endsValid p s plain last && valid p s v) → endsValid p s q v ≡ allValid p s (vs ++ (v ∷ []))
+  ends-more q e = e ∙ ap (λ (t : Bool). t && valid p s v) (c .ends) ∙ sym (all-more p s vs v)
 
   more-plain : marked p s v ≡ false → Checked p s (vs ++ (v ∷ [])) v v
   more-plain m =
       record {
         below = omega arith;
         clear = λ e. refl;
-        rank = λ e. absurd (true≢false (sym e ∙ m));
-        all = λ (e : valid p s v ≡ true) (f : valid p s v ≡ true).
-            whole-valid (c .all (before-plain plain (c .below) m e) (before-plain last (omega arith) m e)) e;
-        each = λ (e : allValid p s (vs ++ (v ∷ [])) ≡ true). (last-valid e, last-valid e);
+        low = λ e. absurd (true≢false (sym e ∙ m));
+        ends =
+            ends-more v
+            (absorbed (valid p s v) (valid p s v) (λ t. t)
+            ∙ sym (absorbed (endsValid p s plain last) (valid p s v)
+            (λ (t : valid p s v ≡ true). both (before-plain plain (c .below) m t) (before-plain last (omega arith) m t))));
       }
 
   more-marked : marked p s v ≡ true → Checked p s (vs ++ (v ∷ [])) v plain
@@ -231,12 +167,11 @@ module _ {p s : ℕ} {vs : List ℕ} {last plain : ℕ} (c : Checked p s vs last
       record {
         below = omega (arith, c .below, not-less p s last v here);
         clear = λ e. absurd (true≢false (sym m ∙ e));
-        rank = λ e. rank-fits p s last v here m;
-        all = λ (e : valid p s plain ≡ true) (f : valid p s v ≡ true). whole-valid (c .all e (before-marked m e f)) f;
-        each = λ (e : allValid p s (vs ++ (v ∷ [])) ≡ true). (c .each (front-valid e) .0, last-valid e);
+        low = λ e. rank-fits p s last v here m;
+        ends = ends-more plain (middle (valid p s plain) (valid p s last) (valid p s v) (before-marked m));
       }
 
-  checked-more : {q : ℕ} → q ≡ cond (marked p s v) plain v → Checked p s (vs ++ (v ∷ [])) v q
+  checked-more : {q : ℕ} → q ≡ laterPlain p s plain v → Checked p s (vs ++ (v ∷ [])) v q
   checked-more e =
       ⊎-elim
       (λ (m : marked p s v ≡ true).
@@ -271,24 +206,24 @@ abbrev pub NoStep : Step → Type 0
 NoStep r = E.tagOf (E.declared step-enum) r ≡ 1
 
 module _ {p s : ℕ} {bytes : List ℕ} {at last : ℕ} where
-  step-cut : GapPost bytes at Cut → StepPost p s bytes at last (StepRefused 18)
+  step-cut : GapPost bytes at Cut → NextValuePost p s bytes at last (StepRefused 18)
   step-cut g = record { answer = step-of p s bytes at last (refused 18) (g .answer); inside = tt }
 
-  step-long : GapPost bytes at Long → StepPost p s bytes at last (StepRefused 19)
+  step-long : GapPost bytes at Long → NextValuePost p s bytes at last (StepRefused 19)
   step-long g = record { answer = step-of p s bytes at last (refused 19) (g .answer); inside = tt }
 
-  pub step-no-gap : (g : Gap) (n : ℕ) → NoGap g → GapPost bytes at g → n ≡ gapRefusal g → StepPost p s bytes at last (StepRefused n)
+  pub step-no-gap : (g : Gap) (n : ℕ) → NoGap g → GapPost bytes at g → n ≡ gapRefusal g → NextValuePost p s bytes at last (StepRefused n)
   step-no-gap (Value v next) n (inl k) a e = absurd (let z : ⊥ = omega arith in z)
   step-no-gap (Value v next) n (inr k) a e = absurd (let z : ⊥ = omega arith in z)
-  step-no-gap Cut n k a e = subst (λ (j : ℕ). StepPost p s bytes at last (StepRefused j)) (sym e) (step-cut a)
-  step-no-gap Long n k a e = subst (λ (j : ℕ). StepPost p s bytes at last (StepRefused j)) (sym e) (step-long a)
+  step-no-gap Cut n k a e = subst (λ (j : ℕ). NextValuePost p s bytes at last (StepRefused j)) (sym e) (step-cut a)
+  step-no-gap Long n k a e = subst (λ (j : ℕ). NextValuePost p s bytes at last (StepRefused j)) (sym e) (step-long a)
 
   pub step-refused : {gap next : ℕ} (v : ℕ) → GapPost bytes at (Value gap next) → v ≡ (last + gap) % 2 ^ 32 → true ≡ refusedHere p s last v
-      → StepPost p s bytes at last (StepRefused 20)
+      → NextValuePost p s bytes at last (StepRefused 20)
   step-refused {gap} {next} v g e f = record { answer = step-is p s bytes at last gap next v g e true f; inside = tt }
 
   pub step-next : {gap next v : ℕ} → GapPost bytes at (Value gap next) → v ≡ (last + gap) % 2 ^ 32 → false ≡ refusedHere p s last v
-      → StepPost p s bytes at last (Next v next)
+      → NextValuePost p s bytes at last (Next v next)
   step-next {gap} {next} {v} g e f = record { answer = step-is p s bytes at last gap next v g e false f; inside = g .inside }
 
 -- What is known of a value that was read: its gap, and that it was not refused.
@@ -366,17 +301,17 @@ joined-before l v (refused n) = refl
 abbrev asked : ℕ → ℕ → List ℕ → List ℕ → Read (List ℕ)
 asked p s vs rest = cond (allValid p s vs) (got vs rest) (refused 20)
 
--- Where the loop is: at most `bound` values are left, and the list's values are those written and those of the rest.
-pub record Going (p s : ℕ) (bytes out : List ℕ) (at k last plain : ℕ) : Type 0 where
+-- Where a walk over a list is that has read the values vs: at most `bound` are left, and the list's values are these and those of the rest.
+pub record Going (p s : ℕ) (bytes vs : List ℕ) (at last plain : ℕ) : Type 0 where
   pub bound : ℕ
   pub enough : length bytes ≤ at + bound
   pub inside : at ≤ length bytes
-  pub fewer : k ≤ at
-  pub whole : sumsOf p s (length bytes) bytes 0 ≡ joined (take k out) (sumsOf p s bound (drop at bytes) last)
-  pub checked : Checked p s (take k out) last plain
+  pub fewer : length vs ≤ at
+  pub whole : sumsOf p s (length bytes) bytes 0 ≡ joined vs (sumsOf p s bound (drop at bytes) last)
+  pub checked : Checked p s vs last plain
 
-pub going-start : (p s : ℕ) (bytes out : List ℕ) → Going p s bytes out 0 0 0 0
-going-start p s bytes out =
+pub going-start : (p s : ℕ) (bytes : List ℕ) → Going p s bytes [] 0 0 0
+going-start p s bytes =
     record {
       bound = length bytes;
       enough = omega arith;
@@ -386,107 +321,73 @@ going-start p s bytes out =
       checked = checked-none p s;
     }
 
-module _ {p s : ℕ} {bytes out : List ℕ} {at k last plain : ℕ} (g : Going p s bytes out at k last plain) where
+module _ {p s : ℕ} {bytes vs : List ℕ} {at last plain : ℕ} (g : Going p s bytes vs at last plain) where
   module _ (h : at < length bytes) where
     -- With the next value in front of the rest.
     one-more : (n : ℕ) × (length bytes ≤ at + 1 + n)
-        × (sumsOf p s (length bytes) bytes 0 ≡ joined (take k out) (andThen (stepOf p s (drop at bytes) last) (sumsFrom p s n)))
+        × (sumsOf p s (length bytes) bytes 0 ≡ joined vs (andThen (stepOf p s (drop at bytes) last) (sumsFrom p s n)))
     one-more = go (g .bound) (g .enough) (g .whole)
       where
-        go : (n : ℕ) → length bytes ≤ at + n → sumsOf p s (length bytes) bytes 0 ≡ joined (take k out) (sumsOf p s n (drop at bytes) last)
+        go : (n : ℕ) → length bytes ≤ at + n → sumsOf p s (length bytes) bytes 0 ≡ joined vs (sumsOf p s n (drop at bytes) last)
             → (n : ℕ) × (length bytes ≤ at + 1 + n)
-            × (sumsOf p s (length bytes) bytes 0 ≡ joined (take k out) (andThen (stepOf p s (drop at bytes) last) (sumsFrom p s n)))
+            × (sumsOf p s (length bytes) bytes 0 ≡ joined vs (andThen (stepOf p s (drop at bytes) last) (sumsFrom p s n)))
         go zero e w = absurd (let z : ⊥ = omega arith in z)
-        go (suc n) e w = (n, omega arith, w ∙ ap (joined (take k out)) (sums-step p s n last (drop at bytes) (omega (arith, length-drop at bytes))))
+        go (suc n) e w = (n, omega arith, w ∙ ap (joined vs) (sums-step p s n last (drop at bytes) (omega (arith, length-drop at bytes))))
 
     stepped-to : (r : Read ℕ) → r ≡ stepOf p s (drop at bytes) last
-        → sumsOf p s (length bytes) bytes 0 ≡ joined (take k out) (andThen r (sumsFrom p s (one-more .0)))
-    stepped-to r e = one-more .2 ∙ ap (λ (x : Read ℕ). joined (take k out) (andThen x (sumsFrom p s (one-more .0)))) (sym e)
+        → sumsOf p s (length bytes) bytes 0 ≡ joined vs (andThen r (sumsFrom p s (one-more .0)))
+    stepped-to r e = one-more .2 ∙ ap (λ (x : Read ℕ). joined vs (andThen x (sumsFrom p s (one-more .0)))) (sym e)
 
-    going-refused : {n : ℕ} → StepPost p s bytes at last (StepRefused n) → Decodes (decodeOf p s bytes) (Refused n) out
+    going-refused : {n : ℕ} → NextValuePost p s bytes at last (StepRefused n) → decodeOf p s bytes ≡ refused n
     unfolding decodeOf
-    going-refused {n} a =
-        subst (λ (x : Read (List ℕ)). Decodes (andThen x (asked p s)) (Refused n) out) (sym (stepped-to (refused n) (a .answer))) refl
+    going-refused {n} a = ap (λ (x : Read (List ℕ)). andThen x (asked p s)) (stepped-to (refused n) (a .answer))
 
-    pub going-stopped : (r : Step) (n : ℕ) → NoStep r → StepPost p s bytes at last r → n ≡ stepRefusal r → Decodes (decodeOf p s bytes) (Refused n) out
+    pub going-stopped : (r : Step) (n : ℕ) → NoStep r → NextValuePost p s bytes at last r → n ≡ stepRefusal r → decodeOf p s bytes ≡ refused n
     going-stopped (Next v next) n j a e = absurd (let z : ⊥ = omega arith in z)
-    going-stopped (StepRefused m) n j a e = subst (λ (i : ℕ). Decodes (decodeOf p s bytes) (Refused i) out) (sym e) (going-refused a)
+    going-stopped (StepRefused m) n j a e = going-refused a ∙ ap (λ (i : ℕ). refused i) (sym e)
 
-    pub going-next : {v next q : ℕ} → k < length out → StepPost p s bytes at last (Next v next) → q ≡ cond (marked p s v) plain v
-        → Going p s bytes (set out k v) next (k + 1) v q
-    going-next {v} {next} {q} room a e =
-        let t : take (k + 1) (set out k v) ≡ take k out ++ (v ∷ []) = ap (λ (n : ℕ). take n (set out k v)) (add-one k) ∙ take-suc-set out k v room in
+    pub going-next : {v next q : ℕ} → NextValuePost p s bytes at last (Next v next) → q ≡ laterPlain p s plain v → Going p s bytes (vs ++ (v ∷ [])) next v q
+    going-next {v} {next} a e =
         record {
           bound = one-more .0;
           enough = omega (arith, one-more .1, a .inside .0);
           inside = a .inside .1;
-          fewer = omega (arith, g .fewer, a .inside .0);
+          fewer = omega (arith, g .fewer, a .inside .0, length-append vs (v ∷ []));
           whole =
-              stepped-to (got v (drop next bytes)) (a .answer)
-              ∙ joined-before (take k out) v (sumsOf p s (one-more .0) (drop next bytes) v)
-              ∙ ap (λ (x : List ℕ). joined x (sumsOf p s (one-more .0) (drop next bytes) v)) (sym t);
-          checked =
-              subst (λ (x : List ℕ). Checked p s x v q) (sym t)
-              (checked-more (g .checked) v (stepped p s (drop at bytes) last (sym (a .answer)) .here) e);
+              stepped-to (got v (drop next bytes)) (a .answer) ∙ joined-before vs v (sumsOf p s (one-more .0) (drop next bytes) v);
+          checked = checked-more (g .checked) v (stepped p s (drop at bytes) last (sym (a .answer)) .here) e;
         }
 
-  -- At the end of the bytes the two tests decide.
+  -- At the end of the bytes the two values decide.
   module _ (h : length bytes ≤ at) where
-    all-read : sumsOf p s (length bytes) bytes 0 ≡ got (take k out) []
+    all-read : sumsOf p s (length bytes) bytes 0 ≡ got vs []
     all-read =
         g .whole
-        ∙ ap (joined (take k out)) (ap (λ (l : List ℕ). sumsOf p s (g .bound) l last) (drop-of-length-le bytes h) ∙ sums-none p s (g .bound) last)
-        ∙ ap (λ (l : List ℕ). got l []) (append-nil (take k out))
+        ∙ ap (joined vs) (ap (λ (l : List ℕ). sumsOf p s (g .bound) l last) (drop-of-length-le bytes h) ∙ sums-none p s (g .bound) last)
+        ∙ ap (λ (l : List ℕ). got l []) (append-nil vs)
 
-    decode-is : (t : Bool) → allValid p s (take k out) ≡ t → decodeOf p s bytes ≡ cond t (got (take k out) []) (refused 20)
+    pub going-end : (t : Bool) → endsValid p s plain last ≡ t → decodeOf p s bytes ≡ cond t (got vs []) (refused 20)
     unfolding decodeOf
-    decode-is t e =
-        ap (λ (x : Read (List ℕ)). andThen x (asked p s)) all-read ∙ ap (λ (x : Bool). cond x (got (take k out) []) (refused 20)) e
+    going-end t e =
+        ap (λ (x : Read (List ℕ)). andThen x (asked p s)) all-read
+        ∙ ap (λ (x : Bool). cond x (got vs []) (refused 20)) (sym (g .checked .ends) ∙ e)
 
-    some-invalid : (allValid p s (take k out) ≡ true → ⊥) → Decodes (decodeOf p s bytes) (Refused 20) out
-    some-invalid f =
-        ⊎-elim (λ (e : allValid p s (take k out) ≡ true). absurd (f e))
-        (λ (e : allValid p s (take k out) ≡ false). subst (λ (x : Read (List ℕ)). Decodes x (Refused 20) out) (sym (decode-is false e)) refl)
-        (decided (allValid p s (take k out)))
+-- A list whose values are read into the first k cells.
+pub going-stored : {p s : ℕ} {bytes : List ℕ} {at last plain : ℕ} (out : List ℕ) (k v : ℕ) → k < length out
+    → Going p s bytes (take k out ++ (v ∷ [])) at last plain → Going p s bytes (take (k + 1) (set out k v)) at last plain
+going-stored {p} {s} {bytes} {at} {last} {plain} out k v h g =
+    subst (λ (l : List ℕ). Going p s bytes l at last plain)
+    (sym (ap (λ (n : ℕ). take n (set out k v)) (add-one k) ∙ take-suc-set out k v h)) g
 
-    pub going-plain : valid p s plain ≡ false → Decodes (decodeOf p s bytes) (Refused 20) out
-    going-plain e = some-invalid (λ (f : allValid p s (take k out) ≡ true). true≢false (sym (g .checked .each f .0) ∙ e))
+pub stored-stopped : {r : Read (List ℕ)} {n : ℕ} (out : List ℕ) → r ≡ refused n → Decodes r (Refused n) out
+stored-stopped {n = n} out e = subst (λ (x : Read (List ℕ)). Decodes x (Refused n) out) (sym e) refl
 
-    pub going-last : valid p s last ≡ false → Decodes (decodeOf p s bytes) (Refused 20) out
-    going-last e = some-invalid (λ (f : allValid p s (take k out) ≡ true). true≢false (sym (g .checked .each f .1) ∙ e))
-
-    pub going-end : k ≤ length out → valid p s plain ≡ true → valid p s last ≡ true → Decodes (decodeOf p s bytes) (Done k) out
-    going-end room e f =
-        subst (λ (x : Read (List ℕ)). Decodes x (Done k) out) (sym (decode-is true (g .checked .all e f)))
-        (ap Done (sym (length-take-le k out room)), ap (λ (n : ℕ). take n out) (length-take-le k out room))
+pub stored-end : {r : Read (List ℕ)} (out : List ℕ) (k : ℕ) → k ≤ length out → r ≡ got (take k out) [] → Decodes r (Done k) out
+stored-end out k h e =
+    subst (λ (x : Read (List ℕ)). Decodes x (Done k) out) (sym e)
+    (ap Done (sym (length-take-le k out h)), ap (λ (n : ℕ). take n out) (length-take-le k out h))
 
 -- ---- what an accepted list is
-
--- A value in its fewest bytes is no longer than the bytes that it was read from.
-short-varint : (n : ℕ) (l : List ℕ) (v : ℕ) (rest : List ℕ) → varintOf n l ≡ got v rest → length (varintBytes n v) + length rest ≤ length l
-short-varint zero l v rest e = absurd (let z : _≡_ {A = ℕ} 0 1 = cc (varint-none l) in omega arith)
-short-varint (suc n) [] v rest e = absurd (let z : _≡_ {A = ℕ} 0 1 = cc (varint-end [] 0 n (omega arith)) in omega arith)
-short-varint (suc n) (b ∷ l) v rest e =
-    ⊎-elim
-    (λ (h : b < 128).
-    let f : got b l ≡ got v rest = sym (varint-last (b ∷ l) 0 n (omega arith) h) ∙ e in
-    let x : b ≡ v = cc in
-    let y : l ≡ rest = cc in
-    omega (arith, ap length y, len-last n v (subst (λ (k : ℕ). k < 128) x h)))
-    (λ (h : 128 ≤ b). go (short-varint n l) (varintOf n l) refl (sym (varint-more (b ∷ l) 0 n (omega arith) h) ∙ e)) (side b 128)
-  where
-    go : ((w : ℕ) (rest : List ℕ) → varintOf n l ≡ got w rest → length (varintBytes n w) + length rest ≤ length l)
-        → (r : Read ℕ) → varintOf n l ≡ r → payload (b % 128) r ≡ got v rest → length (varintBytes (suc n) v) + length rest ≤ suc (length l)
-    go ih (refused k) f g = absurd (let z : _≡_ {A = ℕ} 0 1 = cc in omega arith)
-    go ih (got w rest′) f g =
-        let x : b % 128 + 128 * w ≡ v = cc in
-        let y : rest′ ≡ rest = cc in
-        let i : length (varintBytes n w) + length rest ≤ length l = ih w rest (f ∙ ap (λ (z : List ℕ). got w z) y) in
-        ⊎-elim (λ (h : v < 128). let a : length (varintBytes (suc n) v) + length rest ≤ suc (length l) = omega (arith, len-last n v h) in a)
-        (λ (h : 128 ≤ v).
-        let q : v / 128 ≡ w = omega arith in
-        let a : length (varintBytes (suc n) v) + length rest ≤ suc (length l) = omega (arith, len-more n v h, ap (λ (k : ℕ). length (varintBytes n k)) q) in a)
-        (side v 128)
 
 -- What is known of a gap that was read.
 record Gapped (l : List ℕ) (gap : ℕ) (rest : List ℕ) : Type 0 where
@@ -516,9 +417,10 @@ no-wrap : (last gap v : ℕ) → last < 2 ^ 32 → gap < 2 ^ 32 → v ≡ (last 
 no-wrap last gap v h k e l = omega arith
 
 -- What the values of bytes after the value `last` are.
-record Summed (l : List ℕ) (last : ℕ) (vs rest : List ℕ) : Type 0 where
+record ValuesAfter (l : List ℕ) (last : ℕ) (vs rest : List ℕ) : Type 0 where
   end : rest ≡ []
   rises : notBefore last vs ≡ true
+  some : 0 < length l → 0 < length vs
   fewer : length vs ≤ length l
   short : writtenFrom last vs ≤ length l
 
@@ -529,56 +431,61 @@ module _ {p s : ℕ} {l : List ℕ} {last v : ℕ} {rest : List ℕ} (h : last <
   step-fewer : length rest < length l
   step-fewer = omega (arith, gapped l (t .bytes) .short, len-pos 4 (t .gap))
 
-  summed-more : {ws end : List ℕ} → Summed rest v ws end → Summed l last (v ∷ ws) end
+  values-more : {ws end : List ℕ} → ValuesAfter rest v ws end → ValuesAfter l last (v ∷ ws) end
   unfolding writtenFrom
-  summed-more r =
+  values-more r =
       let g = gapped l (t .bytes) in
       let le = not-less p s last v (t .here) in
       record {
         end = r .end;
         rises = both (le-leb last v le) (r .rises);
+        some = λ h. omega arith;
         fewer = omega (arith, r .fewer, step-fewer);
         short =
             omega (arith, r .short, g .short, ap (λ (k : ℕ). length (varintBytes 5 k)) (no-wrap last (t .gap) v h (g .small) (t .sum) le));
       }
 
-before-got : (v : ℕ) (r : Read (List ℕ)) {vs rest : List ℕ} → before v r ≡ got vs rest → (ws : List ℕ) × (vs ≡ v ∷ ws) × (r ≡ got ws rest)
-before-got v (refused n) e = absurd (let z : _≡_ {A = ℕ} 0 1 = cc in omega arith)
-before-got v (got ws rest′) {vs} {rest} e =
-    let a : v ∷ ws ≡ vs = cc in
+joined-got : (l : List ℕ) (r : Read (List ℕ)) {vs rest : List ℕ} → joined l r ≡ got vs rest → (ws : List ℕ) × (vs ≡ l ++ ws) × (r ≡ got ws rest)
+joined-got l (refused n) e = absurd (let z : _≡_ {A = ℕ} 0 1 = cc in omega arith)
+joined-got l (got ws rest′) {vs} {rest} e =
+    let a : l ++ ws ≡ vs = cc in
     let b : rest′ ≡ rest = cc in
     (ws, sym a, ap (λ (x : List ℕ). got ws x) b)
 
 module _ (p s : ℕ) where
-  summed-none : (n : ℕ) (l : List ℕ) (last : ℕ) {vs rest : List ℕ} → length l ≡ 0 → sumsOf p s n l last ≡ got vs rest → Summed l last vs rest
+  values-none : (n : ℕ) (l : List ℕ) (last : ℕ) {vs rest : List ℕ} → length l ≡ 0 → sumsOf p s n l last ≡ got vs rest → ValuesAfter l last vs rest
   unfolding writtenFrom
-  summed-none n [] last {vs} {rest} h e =
+  values-none n [] last {vs} {rest} h e =
       let f : got [] [] ≡ got vs rest = sym (sums-none p s n last) ∙ e in
       let a : [] ≡ vs = cc in
       let b : [] ≡ rest = cc in
-      subst (λ (x : List ℕ). Summed [] last x rest) a (record { end = sym b; rises = refl; fewer = omega arith; short = omega arith })
-  summed-none n (b ∷ l) last h e = absurd (let z : ⊥ = omega arith in z)
+      subst (λ (x : List ℕ). ValuesAfter [] last x rest) a (record { end = sym b; rises = refl; some = λ z. z; fewer = omega arith; short = omega arith })
+  values-none n (b ∷ l) last h e = absurd (let z : ⊥ = omega arith in z)
 
-  summed : (n : ℕ) (l : List ℕ) (last : ℕ) (vs rest : List ℕ) → length l ≤ n → last < 2 ^ 32 → sumsOf p s n l last ≡ got vs rest → Summed l last vs rest
-  summed zero l last vs rest h k e = summed-none zero l last (omega arith) e
-  summed (suc n) l last vs rest h k e =
-      ⊎-elim (λ (z : length l < 1). summed-none (suc n) l last (omega arith) e)
-      (λ (z : 1 ≤ length l). go (summed n) (stepOf p s l last) refl (sym (sums-step p s n last l z) ∙ e)) (side (length l) 1)
+  values-after : (n : ℕ) (l : List ℕ) (last : ℕ) (vs rest : List ℕ) → length l ≤ n → last < 2 ^ 32 → sumsOf p s n l last ≡ got vs rest → ValuesAfter l last vs rest
+  values-after zero l last vs rest h k e = values-none zero l last (omega arith) e
+  values-after (suc n) l last vs rest h k e =
+      ⊎-elim (λ (z : length l < 1). values-none (suc n) l last (omega arith) e)
+      (λ (z : 1 ≤ length l). go (values-after n) (stepOf p s l last) refl (sym (sums-step p s n last l z) ∙ e)) (side (length l) 1)
     where
-      go : ((l : List ℕ) (last : ℕ) (vs rest : List ℕ) → length l ≤ n → last < 2 ^ 32 → sumsOf p s n l last ≡ got vs rest → Summed l last vs rest)
-          → (r : Read ℕ) → stepOf p s l last ≡ r → andThen r (sumsFrom p s n) ≡ got vs rest → Summed l last vs rest
+      go : ((l : List ℕ) (last : ℕ) (vs rest : List ℕ) → length l ≤ n → last < 2 ^ 32 → sumsOf p s n l last ≡ got vs rest → ValuesAfter l last vs rest)
+          → (r : Read ℕ) → stepOf p s l last ≡ r → andThen r (sumsFrom p s n) ≡ got vs rest → ValuesAfter l last vs rest
       go ih (refused j) f g = absurd (let z : _≡_ {A = ℕ} 0 1 = cc in omega arith)
       go ih (got v more) f g =
-          let b = before-got v (sumsOf p s n more v) g in
+          let r = sumsOf p s n more v in
+          let b = joined-got (v ∷ []) r (sym (joined-none (before v r) ∙ joined-before [] v r) ∙ g) in
           let t = stepped p s l last f in
-          subst (λ (x : List ℕ). Summed l last x rest) (sym (b .1))
-          (summed-more k t (ih more v (b .0) rest (omega (arith, step-fewer k t)) (step-lt k t) (b .2)))
+          subst (λ (x : List ℕ). ValuesAfter l last x rest) (sym (b .1))
+          (values-more k t (ih more v (b .0) rest (omega (arith, step-fewer k t)) (step-lt k t) (b .2)))
 
--- What a list that is accepted is: read to its end, never descending, every value valid, and no longer when it is written than it was.
+-- What a list that is accepted is: read to its end, never descending, every value valid, of a value or more where it has bytes, and no longer when it
+-- is written than it was.
 pub record Accepted (p s : ℕ) (l vs rest : List ℕ) : Type 0 where
+  pub sums : sumsOf p s (length l) l 0 ≡ got vs rest
   pub end : rest ≡ []
   pub rises : ascends vs ≡ true
   pub all : allValid p s vs ≡ true
+  pub some : 0 < length l → 0 < length vs
   pub fewer : length vs ≤ length l
   pub short : written vs ≤ length l
 
@@ -595,8 +502,39 @@ accepted p s l {vs} {rest} e = go (sumsOf p s (length l) l 0) refl e
         pick true h k =
             let a : ws ≡ vs = cc in
             let b : end ≡ rest = cc in
-            let m = summed p s (length l) l 0 vs rest (omega arith) (omega arith) (f ∙ ap₂ (λ (x y : List ℕ). got x y) a b) in
-            record { end = m .end; rises = m .rises; all = subst (λ (x : List ℕ). allValid p s x ≡ true) a h; fewer = m .fewer; short = m .short }
+            let sums = f ∙ ap₂ (λ (x y : List ℕ). got x y) a b in
+            let m = values-after p s (length l) l 0 vs rest (omega arith) (omega arith) sums in
+            record {
+              sums = sums;
+              end = m .end;
+              rises = m .rises;
+              all = subst (λ (x : List ℕ). allValid p s x ≡ true) a h;
+              some = m .some;
+              fewer = m .fewer;
+              short = m .short;
+            }
+
+-- A walk over a list that is accepted: it is not stopped, its values so far are the list's first ones, each is valid, and at the end they are all.
+module _ {p s : ℕ} {bytes vs : List ℕ} {at last plain : ℕ} {all rest : List ℕ} (e : decodeOf p s bytes ≡ got all rest) (g : Going p s bytes vs at last plain) where
+  pub going-front : (more : List ℕ) × (all ≡ vs ++ more)
+  going-front = let j = joined-got vs (sumsOf p s (g .bound) (drop at bytes) last) (sym (g .whole) ∙ accepted p s bytes e .sums) in (j .0, j .1)
+
+  pub going-valid : allValid p s vs ≡ true
+  going-valid =
+      let f = going-front in
+      both-true (allValid p s vs) (allValid p s (f .0))
+      (sym (ap (allValid p s) (f .1) ∙ all-append p s vs (f .0)) ∙ accepted p s bytes e .all) .0
+
+  pub going-whole : length bytes ≤ at → all ≡ vs
+  going-whole h = let f : got all rest ≡ got vs [] = sym (accepted p s bytes e .sums) ∙ all-read g h in cc
+
+  pub going-unstopped : at < length bytes → (r : Step) → NoStep r → NextValuePost p s bytes at last r → ⊥
+  going-unstopped h r j a = let f = going-stopped g h r (stepRefusal r) j a refl in absurd (let z : _≡_ {A = ℕ} 0 1 = cc in omega arith)
+
+pub going-value : {p s : ℕ} {bytes vs : List ℕ} {at last plain : ℕ} {all rest : List ℕ} {v next : ℕ} → decodeOf p s bytes ≡ got all rest
+    → Going p s bytes vs at last plain → at < length bytes → NextValuePost p s bytes at last (Next v next) → valid p s v ≡ true
+going-value {p} {s} {vs = vs} {v = v} e g h a =
+    both-true (allValid p s vs) (valid p s v) (sym (all-more p s vs v) ∙ going-valid e (going-next g h a refl)) .1
 
 -- No bytes are a list of no values, whatever the precisions are.
 pub decode-none : (p s : ℕ) → decodeOf p s [] ≡ got [] []

@@ -18,6 +18,7 @@ use Rattle.lists.specs.Values.{markBit, mark, marked, valid}
 use Rattle.lists.specs.Sorting.{ascends, insert, sortOf}
 use Rattle.lists.specs.Order.{Ascending, Rising, lastOf}
 use Rattle.lists.specs.Lists.{allValid, encodeFrom, encodeList, writtenFrom, written, slot, sameSlotFirst, lastOfSlots, merged, distinctSlots}
+use Rattle.lists.proofs.DecodingLaws.{all-append}
 use Rattle.lists.proofs.OrderLaws.{insert-least, least-below, least-mem, ascending-least, order, ascending, ascends-of, ascending-lower, ascends-sort, put-first, put-later, sort-of-ascends, sort-perm, sort-swap, perm-sort, mem-perm, length-sort}
 
 -- ---- marks
@@ -229,19 +230,19 @@ pub record Kept (p s v : ℕ) (l : List ℕ) : Type 0 where
   pub value : ℕ
   pub here : List·Memᴰ value l
   pub slots : slot p s value ≡ slot p s v
-  pub larger : v ≤ value
+  pub no-smaller : v ≤ value
 
 kept-tail : (p s v x : ℕ) (l : List ℕ) → Kept p s v l → Kept p s v (x ∷ l)
-kept-tail p s v x l k = record { value = k .value; here = List·Memᴰ·tail (k .here); slots = k .slots; larger = k .larger }
+kept-tail p s v x l k = record { value = k .value; here = List·Memᴰ·tail (k .here); slots = k .slots; no-smaller = k .no-smaller }
 
 kept-as : (p s v w : ℕ) (l : List ℕ) → slot p s w ≡ slot p s v → v ≤ w → Kept p s w l → Kept p s v l
-kept-as p s v w l e h k = record { value = k .value; here = k .here; slots = k .slots ∙ e; larger = omega (arith, k .larger) }
+kept-as p s v w l e h k = record { value = k .value; here = k .here; slots = k .slots ∙ e; no-smaller = omega (arith, k .no-smaller) }
 
 last-has : (p s n v : ℕ) (l : List ℕ) → Ascending n l → List·Memᴰ v l → Kept p s v (lastOfSlots p s l)
 unfolding lastOfSlots
 last-has p s n v [] a m = absurd (List·Memᴰ·not-nil m)
 last-has p s n v (x ∷ []) a m =
-    ⊎-elim (λ (e : v ≡ x). record { value = x; here = List·Memᴰ·head refl; slots = ap (slot p s) (sym e); larger = omega arith })
+    ⊎-elim (λ (e : v ≡ x). record { value = x; here = List·Memᴰ·head refl; slots = ap (slot p s) (sym e); no-smaller = omega arith })
     (λ (i : List·Memᴰ v []). absurd (List·Memᴰ·not-nil i)) (List·Memᴰ·cases-cons m)
 last-has p s n v (x ∷ y ∷ l) a m =
     last-cases p s x (y ∷ l) (Kept p s v)
@@ -252,7 +253,7 @@ last-has p s n v (x ∷ y ∷ l) a m =
     (last-has p s x y (y ∷ l) (a .1) (List·Memᴰ·head refl)))
     (λ (i : List·Memᴰ v (y ∷ l)). last-has p s x v (y ∷ l) (a .1) i) (List·Memᴰ·cases-cons m))
     (λ (h : sameSlotFirst p s x (y ∷ l) ≡ false).
-    ⊎-elim (λ (e : v ≡ x). record { value = x; here = List·Memᴰ·head refl; slots = ap (slot p s) (sym e); larger = omega arith })
+    ⊎-elim (λ (e : v ≡ x). record { value = x; here = List·Memᴰ·head refl; slots = ap (slot p s) (sym e); no-smaller = omega arith })
     (λ (i : List·Memᴰ v (y ∷ l)). kept-tail p s v x (lastOfSlots p s (y ∷ l)) (last-has p s x v (y ∷ l) (a .1) i)) (List·Memᴰ·cases-cons m))
 
 -- ---- validity, value by value
@@ -282,10 +283,7 @@ unfolding allValid
 none-valid p s = refl
 
 pub valid-append : (p s : ℕ) (a b : List ℕ) → allValid p s a ≡ true → allValid p s b ≡ true → allValid p s (a ++ b) ≡ true
-valid-append p s a b f g =
-    mem-valid p s (a ++ b)
-    (λ (v : ℕ) (m : List·Memᴰ v (a ++ b)).
-    ⊎-elim (λ (i : List·Memᴰ v a). valid-mem p s v a f i) (λ (i : List·Memᴰ v b). valid-mem p s v b g i) (List·Memᴰ·append-cases a m))
+valid-append p s a b f g = all-append p s a b ∙ both f g
 
 -- Whether values are valid does not depend on their order.
 pub valid-perm : (p s : ℕ) {a b : List ℕ} → List·Permᴰ a b → allValid p s b ≡ true → allValid p s a ≡ true
@@ -366,8 +364,8 @@ merged-nothing p s a o d =
 -- ---- merging again
 
 -- A value between two of one slot is of that slot.
-slot-between : (p s x f y : ℕ) → x ≤ f → f ≤ y → slot p s x ≡ slot p s y → slot p s x ≡ slot p s f
-slot-between p s x f y h k e = omega (arith, slot-mono p s x f h, slot-mono p s f y k)
+slot-within : (p s x f y : ℕ) → x ≤ f → f ≤ y → slot p s x ≡ slot p s y → slot p s x ≡ slot p s f
+slot-within p s x f y h k e = omega (arith, slot-mono p s x f h, slot-mono p s f y k)
 
 -- What a list starts with after an insertion.
 first-insert : (p s z x f : ℕ) (l : List ℕ) → (x ≤ f → slot p s x ≡ slot p s f) → sameSlotFirst p s z (insert x (f ∷ l)) ≡ eqb (slot p s z) (slot p s f)
@@ -379,7 +377,7 @@ first-later : (p s z x f : ℕ) (l : List ℕ) → sameSlotFirst p s f l ≡ tru
 first-later p s z x f [] m h = absurd (true≢false (sym m))
 first-later p s z x f (g ∷ l) m h =
     let e : slot p s f ≡ slot p s g = eqb-true (slot p s f) (slot p s g) m in
-    first-insert p s z x g l (λ (k : x ≤ g). sym (slot-between p s f x g (let j : f ≤ x = omega arith in j) k e) ∙ e)
+    first-insert p s z x g l (λ (k : x ≤ g). sym (slot-within p s f x g (let j : f ≤ x = omega arith in j) k e) ∙ e)
     ∙ ap (eqb (slot p s z)) (sym e)
 
 -- An insertion sees only the last of each slot.
@@ -420,7 +418,7 @@ last-insert p s n x (z ∷ f ∷ l) a = ⊎-elim (λ (h : x ≤ z). front h) (λ
         let e : slot p s z ≡ slot p s f = eqb-true (slot p s z) (slot p s f) k in
         ap (lastOfSlots p s) (put-later x z (f ∷ l) h)
         ∙ last-same p s z (insert x (f ∷ l))
-        (first-insert p s z x f l (λ (j : x ≤ f). sym (slot-between p s z x f (let i : z ≤ x = omega arith in i) j e) ∙ e) ∙ k)
+        (first-insert p s z x f l (λ (j : x ≤ f). sym (slot-within p s z x f (let i : z ≤ x = omega arith in i) j e) ∙ e) ∙ k)
         ∙ ih
         ∙ sym (ap (λ (t : List ℕ). lastOfSlots p s (insert x t)) (last-same p s z (f ∷ l) k)))
         (λ (k : sameSlotFirst p s z (f ∷ l) ≡ false).
@@ -443,13 +441,13 @@ drop-insert p s n x y (z ∷ f ∷ l) a m h e =
     (λ (g : x ≤ z).
     ap (lastOfSlots p s) (put-first x z (f ∷ l) g)
     ∙ slot-drop p s [] (f ∷ l) x z
-    (slot-between p s x z y g (least-mem z y (z ∷ f ∷ l) (let j : z ≤ z = omega arith in j, ascending-least z (f ∷ l) (a .1)) m) e))
+    (slot-within p s x z y g (least-mem z y (z ∷ f ∷ l) (let j : z ≤ z = omega arith in j, ascending-least z (f ∷ l) (a .1)) m) e))
     (λ (g : z < x).
     let k : List·Memᴰ y (f ∷ l) =
     ⊎-elim (λ (i : y ≡ z). absurd (let o : ⊥ = omega arith in o)) (λ (i : List·Memᴰ y (f ∷ l)). i) (List·Memᴰ·cases-cons m) in
     let up : f ≤ y = least-mem f y (f ∷ l) (let j : f ≤ f = omega arith in j, ascending-least f l (a .1 .1)) k in
     ap (lastOfSlots p s) (put-later x z (f ∷ l) g)
-    ∙ ap₂ (λ (b : Bool) (t : List ℕ). cond b t (z ∷ t)) (first-insert p s z x f l (λ (j : x ≤ f). slot-between p s x f y j up e))
+    ∙ ap₂ (λ (b : Bool) (t : List ℕ). cond b t (z ∷ t)) (first-insert p s z x f l (λ (j : x ≤ f). slot-within p s x f y j up e))
     (drop-insert p s z x y (f ∷ l) (a .1) k h e)) (order x z)
 
 last-again : (p s n : ℕ) (l c : List ℕ) → Ascending n l → lastOfSlots p s (sortOf (lastOfSlots p s l ++ c)) ≡ lastOfSlots p s (sortOf (l ++ c))
@@ -483,8 +481,8 @@ merged-again p s a b c =
 -- ---- the written length
 
 -- How many bytes a gap takes.
-abbrev pub gap : ℕ → ℕ
-gap d = length (varintBytes 5 d)
+abbrev pub gapBytes : ℕ → ℕ
+gapBytes d = length (varintBytes 5 d)
 
 len-mono : (n v w : ℕ) → v ≤ w → length (varintBytes n v) ≤ length (varintBytes n w)
 len-mono zero v w h = omega (arith, len-le 0 v)
@@ -513,7 +511,7 @@ len-double (suc n) x =
     small (suc m) v h = omega (arith, len-last m v h)
 
 -- A gap takes no more bytes than the two that it is split into.
-pub gap-sum : (x y : ℕ) → gap (x + y) ≤ gap x + gap y
+pub gap-sum : (x y : ℕ) → gapBytes (x + y) ≤ gapBytes x + gapBytes y
 gap-sum x y =
     ⊎-elim
     (λ (h : x < y).
@@ -563,7 +561,7 @@ pub length-encode-from : (n : ℕ) (l : List ℕ) → length (encodeFrom n l) �
 unfolding encodeFrom writtenFrom
 length-encode-from n [] = refl
 length-encode-from n (x ∷ l) =
-    length-append (varintBytes 5 (x - n)) (encodeFrom x l) ∙ ap (λ (k : ℕ). gap (x - n) + k) (length-encode-from x l)
+    length-append (varintBytes 5 (x - n)) (encodeFrom x l) ∙ ap (λ (k : ℕ). gapBytes (x - n) + k) (length-encode-from x l)
 
 pub length-encode : (l : List ℕ) → length (encodeList l) ≡ written l
 unfolding encodeList written
@@ -574,8 +572,8 @@ written-drop : (n x : ℕ) (l : List ℕ) → n ≤ x → Ascending x l → writ
 unfolding writtenFrom
 written-drop n x [] h a = omega arith
 written-drop n x (y ∷ l) h a =
-    let g : gap (y - n) ≤ gap (x - n) + gap (y - x) =
-    subst (λ (d : ℕ). gap d ≤ gap (x - n) + gap (y - x)) (let e : (x - n) + (y - x) ≡ y - n = omega (arith, a .0) in e) (gap-sum (x - n) (y - x)) in
+    let g : gapBytes (y - n) ≤ gapBytes (x - n) + gapBytes (y - x) =
+    subst (λ (d : ℕ). gapBytes d ≤ gapBytes (x - n) + gapBytes (y - x)) (let e : (x - n) + (y - x) ≡ y - n = omega (arith, a .0) in e) (gap-sum (x - n) (y - x)) in
     omega (arith, g)
 
 written-last : (p s n : ℕ) (l : List ℕ) → Ascending n l → writtenFrom n (lastOfSlots p s l) ≤ writtenFrom n l
@@ -594,11 +592,11 @@ written-insert n x (y ∷ l) h a =
     ⊎-elim
     (λ (k : x ≤ y).
     subst (λ (t : List ℕ). writtenFrom n t ≤ writtenFrom n (y ∷ l) + 5) (sym (put-first x y l k))
-    (let g : gap (x - n) + (gap (y - x) + writtenFrom y l) ≤ gap (y - n) + writtenFrom y l + 5 =
+    (let g : gapBytes (x - n) + (gapBytes (y - x) + writtenFrom y l) ≤ gapBytes (y - n) + writtenFrom y l + 5 =
     omega (arith, len-le 5 (x - n), len-mono 5 (y - x) (y - n) (let j : y - x ≤ y - n = omega arith in j)) in g))
     (λ (k : y < x).
     subst (λ (t : List ℕ). writtenFrom n t ≤ writtenFrom n (y ∷ l) + 5) (sym (put-later x y l k))
-    (let g : gap (y - n) + writtenFrom y (insert x l) ≤ gap (y - n) + writtenFrom y l + 5 =
+    (let g : gapBytes (y - n) + writtenFrom y (insert x l) ≤ gapBytes (y - n) + writtenFrom y l + 5 =
     omega (arith, written-insert y x l (let j : y ≤ x = omega arith in j) (a .1)) in g)) (order x y)
 
 written-sort : (a b : List ℕ) → ascends a ≡ true → written (sortOf (b ++ a)) ≤ written a + 5 * length b

@@ -19,17 +19,17 @@ module _ (p s : ℕ) where
   -- ---- an index is a slot
 
   index-group : (i v w : ℕ) → MarkedAt p s i v → MarkedAt p s i w → v / 64 ≡ w / 64
-  index-group i v w f g = omega (arith, mark-groups p s, marked-ge p s v (f .mark), marked-ge p s w (g .mark), f .index, g .index)
+  index-group i v w f g = omega (arith, mark-groups p s, marked-ge p s v (f .is-marked), marked-ge p s w (g .is-marked), f .index, g .index)
 
   index-slot : (i v w : ℕ) → MarkedAt p s i v → MarkedAt p s i w → slot p s v ≡ slot p s w
   index-slot i v w f g =
-      slot-marked p s v (f .mark) ∙ ap (λ (k : ℕ). k * 64) (index-group i v w f g) ∙ sym (slot-marked p s w (g .mark))
+      slot-marked p s v (f .is-marked) ∙ ap (λ (k : ℕ). k * 64) (index-group i v w f g) ∙ sym (slot-marked p s w (g .is-marked))
 
   slot-at : (i v w : ℕ) → slot p s w ≡ slot p s v → MarkedAt p s i v → MarkedAt p s i w
   slot-at i v w e f =
       let g : v / 64 ≡ w / 64 = omega (arith, slot-group p s v .0, slot-group p s v .1, slot-group p s w .0, slot-group p s w .1) in
       record {
-        mark = sym (marked-group p s v w g) ∙ f .mark;
+        is-marked = sym (marked-group p s v w g) ∙ f .is-marked;
         index = (let h : markedIndex p s w ≡ markedIndex p s v = omega (arith, mark-groups p s) in h) ∙ f .index;
       }
 
@@ -73,7 +73,7 @@ module _ (p s : ℕ) where
               λ (w : ℕ) (m : InEither a b w) (g : MarkedAt p s i w).
               let t = merged-has p s a b w m in
               let same : t .value ≡ k .value = alike (t .value) (k .value) (t .here) (k .here) (t .slots ∙ index-slot i w (k .value) g its) in
-              omega (arith, t .larger, same, index-group i w (k .value) g its);
+              omega (arith, t .no-smaller, same, index-group i w (k .value) g its);
         }
 
     module _ (left : SuchList p s a) (right : SuchList p s b) where
@@ -89,7 +89,7 @@ module _ (p s : ℕ) where
           record {
             from = merged-from p s a b;
             strictly = merged-rises p s a b;
-            largest = largest-kept;
+            largest-m = largest-kept;
             plain = plain-kept;
             count = e ∙ sym (length-encode (merged p s a b));
             both =

@@ -15,7 +15,7 @@ use Rattle.wire.proofs.VarintLaws.{side}
 use Rattle.lists.proofs.ValueLaws.{decided, register-marked, rank-marked, lowered-register, register-zero, lowered-none, lowered-register-none, lowered-register-twice, lowered-register-mono, lowered-register-le, lowered-le, register-lt, rank-le}
 use Rattle.lists.proofs.MergeLaws.{mark-groups, marked-group, slot-plain, slot-marked, merged-from, merged-has, valid-mem}
 use Rattle.lists.specs.Lists.{slot, merged, allValid}
-use Rattle.lists.specs.Values.{Pair, mark, marked, register, rank, loweredRank, loweredRegister}
+use Rattle.lists.specs.Values.{Pair, mark, marked, register, rank, largestRank, loweredRank, loweredRegister}
 use Rattle.lists.specs.Registers.{zeros, raise, rankAt, rankAtLower, raisedBy, raisedLower, larger, loweredAt, tabulate, lowered, largest}
 
 -- ---- the larger of numbers
@@ -52,8 +52,8 @@ le-right {a} {c} b h = le-trans h (le-max-right b c)
 
 -- ---- tests of equality
 
-pub alike : (a b : ℕ) → (a ≡ b) ⊎ (a ≡ b → ⊥)
-alike a b = go (eqb a b) refl
+pub equal-or-not : (a b : ℕ) → (a ≡ b) ⊎ (a ≡ b → ⊥)
+equal-or-not a b = go (eqb a b) refl
   where
     go : (t : Bool) → eqb a b ≡ t → (a ≡ b) ⊎ (a ≡ b → ⊥)
     go true e = inl (eqb-true a b e)
@@ -116,7 +116,7 @@ module _ (ix rk : ℕ → ℕ) (j : ℕ) where
       })) (side (rk w) (peak ix rk j l)))
       (λ (e : ix w ≡ j → ⊥).
       rest-best w l (ap (λ (n : ℕ). max n (peak ix rk j l)) (if-other (ix w) j (rk w) 0 e) ∙ zero-max (peak ix rk j l)) (peak-reached l))
-      (alike (ix w) j)
+      (equal-or-not (ix w) j)
 
   pub peak-least : (l : List ℕ) (m : ℕ) → ((v : ℕ) → List·Memᴰ v l → ix v ≡ j → rk v ≤ m) → peak ix rk j l ≤ m
   peak-least l m f =
@@ -152,7 +152,7 @@ module _ (ix rk : ℕ → ℕ) (j : ℕ) where
       (λ (e : i ≡ j → ⊥).
       getD-set-other regs i j (max (getD regs i 0) r) 0 (λ (q : j ≡ i). e (sym q))
       ∙ sym (max-zero (getD regs j 0))
-      ∙ ap (λ (y : ℕ). max (getD regs j 0) y) (sym (if-other i j r 0 e))) (alike i j)
+      ∙ ap (λ (y : ℕ). max (getD regs j 0) y) (sym (if-other i j r 0 e))) (equal-or-not i j)
 
   with-at : (regs l : List ℕ) → ((v : ℕ) → List·Memᴰ v l → ix v < length regs) → getD (raisedWith ix rk regs l) j 0 ≡ max (getD regs j 0) (peak ix rk j l)
   unfolding raisedWith peak
@@ -164,10 +164,10 @@ module _ (ix rk : ℕ → ℕ) (j : ℕ) where
       ∙ ap (λ (n : ℕ). max n (peak ix rk j l)) (raise-at regs (ix v) (rk v) (f v (List·Memᴰ·head refl)))
       ∙ max-assoc (getD regs j 0) (cond (eqb (ix v) j) (rk v) 0) (peak ix rk j l)
 
-with-length : (ix rk : ℕ → ℕ) (regs l : List ℕ) → length (raisedWith ix rk regs l) ≡ length regs
+raised-with-length : (ix rk : ℕ → ℕ) (regs l : List ℕ) → length (raisedWith ix rk regs l) ≡ length regs
 unfolding raisedWith
-with-length ix rk regs [] = refl
-with-length ix rk regs (v ∷ l) = with-length ix rk (raise regs (ix v) (rk v)) l ∙ length-set regs (ix v) (max (getD regs (ix v) 0) (rk v))
+raised-with-length ix rk regs [] = refl
+raised-with-length ix rk regs (v ∷ l) = raised-with-length ix rk (raise regs (ix v) (rk v)) l ∙ length-set regs (ix v) (max (getD regs (ix v) 0) (rk v))
 
 -- ---- the registers of a list
 
@@ -207,14 +207,14 @@ lower-none p s regs (v ∷ l) =
     ∙ lower-none p s (raise regs (register p s v) (rank p s v)) l
 
 pub raised-length : (p s : ℕ) (regs l : List ℕ) → length (raisedBy p s regs l) ≡ length regs
-raised-length p s regs l = ap length (raised-with p s regs l) ∙ with-length (register p s) (rank p s) regs l
+raised-length p s regs l = ap length (raised-with p s regs l) ∙ raised-with-length (register p s) (rank p s) regs l
 
 -- Of no registers yet.
 pub zeros-raised : (p s : ℕ) (l : List ℕ) → length (raisedBy p s (zeros p) l) ≡ 2 ^ p
 zeros-raised p s l = raised-length p s (zeros p) l ∙ length-replicate (2 ^ p) 0
 
 pub lower-length : (p s d : ℕ) (regs l : List ℕ) → length (raisedLower p s d regs l) ≡ length regs
-lower-length p s d regs l = ap length (lower-with p s d regs l) ∙ with-length (lowerIndex p s d) (lowerRank p s d) regs l
+lower-length p s d regs l = ap length (lower-with p s d regs l) ∙ raised-with-length (lowerIndex p s d) (lowerRank p s d) regs l
 
 pub raised-at : (p s j : ℕ) (regs l : List ℕ) → ((v : ℕ) → List·Memᴰ v l → register p s v < length regs)
     → getD (raisedBy p s regs l) j 0 ≡ max (getD regs j 0) (rankAt p s j l)
@@ -418,7 +418,7 @@ module _ (d j : ℕ) where
       (λ (e : i / 2 ^ d ≡ j → ⊥).
       rest-comes i r regs
       (ap (λ (n : ℕ). max n (loweredAt d (i + 1) regs j)) (if-other (i / 2 ^ d) j (loweredRegister d i r) 0 e) ∙ zero-max (loweredAt d (i + 1) regs j))
-      (comes (i + 1) regs)) (alike (i / 2 ^ d) j)
+      (comes (i + 1) regs)) (equal-or-not (i / 2 ^ d) j)
 
   -- The register at an index lands, lowered, at most as large as what is there.
   pub lowered-upper : (regs : List ℕ) (k : ℕ) → k / 2 ^ d ≡ j → loweredRegister d k (getD regs k 0) ≤ loweredAt d 0 regs j
@@ -641,7 +641,7 @@ lower-larger p s d q regs l e inside =
 
 -- ---- a merge
 
--- Two values of one slot are the same, or both marked and alike but for their low six bits.
+-- Two values of one slot are the same, or both marked and equal-or-not but for their low six bits.
 module _ (p s v w : ℕ) (e : slot p s w ≡ slot p s v) where
   same-slot : (w ≡ v) ⊎ ((marked p s w ≡ true) × (marked p s v ≡ true) × (w / 64 ≡ v / 64))
   same-slot =
@@ -686,7 +686,7 @@ stands-merge p s a b v m =
       value = k .value;
       listed = k .here;
       index = slot-register p s v (k .value) (k .slots);
-      larger-rank = slot-rank p s v (k .value) (k .slots) (k .larger);
+      larger-rank = slot-rank p s v (k .value) (k .slots) (k .no-smaller);
     }
 
 -- A merge has the registers of both lists.
@@ -702,7 +702,7 @@ valid-inside p s l pair ok v m = register-lt p s v pair (valid-mem p s v l ok m)
 pub valid-inside-lower : (p s d q : ℕ) (l : List ℕ) → p ≡ q + d → Pair p s → allValid p s l ≡ true → (v : ℕ) → List·Memᴰ v l → register p s v / 2 ^ d < 2 ^ q
 valid-inside-lower p s d q l e pair ok v m = shr-lt q d (subst (λ (n : ℕ). register p s v < 2 ^ n) e (valid-inside p s l pair ok v m))
 
-pub valid-ranks : (p s : ℕ) (l : List ℕ) → Pair p s → allValid p s l ≡ true → (v : ℕ) → List·Memᴰ v l → rank p s v ≤ 88 - p
+pub valid-ranks : (p s : ℕ) (l : List ℕ) → Pair p s → allValid p s l ≡ true → (v : ℕ) → List·Memᴰ v l → rank p s v ≤ largestRank p
 valid-ranks p s l pair ok v m = rank-le p s v pair (valid-mem p s v l ok m)
 
 -- ---- whole rows of registers

@@ -295,15 +295,15 @@ cleared-all p regs = ap (λ (n : ℕ). replicate n 0) (let e : 2 ^ p - 0 ≡ 2 ^
 
 -- ---- counting and the largest
 
-pub record Counting (regs : List ℕ) (count i : ℕ) : Type 0 where
+pub record CountingNotZero (regs : List ℕ) (count i : ℕ) : Type 0 where
   pub few : count ≤ i
   pub sum : count + notZero (drop i regs) ≡ notZero regs
 
-pub count-none : (regs : List ℕ) → Counting regs 0 0
+pub count-none : (regs : List ℕ) → CountingNotZero regs 0 0
 count-none regs = record { few = zero-le; sum = let e : 0 + notZero regs ≡ notZero regs = omega arith in e }
 
-pub count-turn : (regs : List ℕ) (count i x r : ℕ) → i < length regs → r ≡ getD regs i 0 → x ≡ cond (eqb r 0) 0 1 → x ≤ 1 → Counting regs count i
-    → Counting regs (count + x) (i + 1)
+pub count-turn : (regs : List ℕ) (count i x r : ℕ) → i < length regs → r ≡ getD regs i 0 → x ≡ cond (eqb r 0) 0 1 → x ≤ 1 → CountingNotZero regs count i
+    → CountingNotZero regs (count + x) (i + 1)
 unfolding notZero
 count-turn regs count i x r h e f l w =
     record {
@@ -325,7 +325,7 @@ count-turn regs count i x r h e f l w =
         let b : notZero (getD regs i 0 ∷ drop (suc i) regs) ≡ 1 + notZero (drop (suc i) regs) = rw (ne-eqb (getD regs i 0) 0 (λ (y : getD regs i 0 ≡ 0). n (e ∙ y))) refl in
         omega (arith, whole, a, b)
 
-pub count-end : (regs : List ℕ) (count i : ℕ) → length regs ≤ i → Counting regs count i → count ≡ notZero regs
+pub count-end : (regs : List ℕ) (count i : ℕ) → length regs ≤ i → CountingNotZero regs count i → count ≡ notZero regs
 unfolding notZero
 count-end regs count i h w =
     (let e : count ≡ count + 0 = omega arith in e) ∙ ap (λ (l : List ℕ). count + notZero l) (sym (drop-of-length-le regs h)) ∙ w .sum
@@ -662,20 +662,21 @@ module _ (p d : ℕ) (before : List ℕ) (pre : LowerPre p d before) where
   -- Lowered, and the rest made zero.
   pub lower-whole : (after last : List ℕ)
       → after ≡ withRegisters p (lowered d (p - d) (registersOf p before) ++ drop (2 ^ (p - d)) (registersOf p before)) before
-      → last ≡ withRegisters p (clearedFrom p (2 ^ (p - d)) (registersOf p after)) after → last ≡ withRegisters p (loweredInPlace p d (registersOf p before)) before
+      → last ≡ withRegisters p (clearedFrom p (2 ^ (p - d)) (registersOf p after)) after
+      → last ≡ withRegisters p (loweredInPlace p (p - d) (registersOf p before)) before
   unfolding clearedFrom
   lower-whole after last e f =
+      let q = p - d in
+      let row = lowered d q (registersOf p before) in
+      let rest = drop (2 ^ q) (registersOf p before) in
+      let freed : List ℕ = replicate (2 ^ p - 2 ^ q) 0 in
       let size = lower-start .size in
       f
-      ∙ ap (λ (l : List ℕ). withRegisters p (take (2 ^ (p - d)) l ++ replicate (2 ^ p - 2 ^ (p - d)) 0) after)
-      (ap (registersOf p) e
-      ∙ of-with p before (pre .holds .room) (lowered d (p - d) (registersOf p before) ++ drop (2 ^ (p - d)) (registersOf p before)) size)
-      ∙ ap (λ (l : List ℕ). withRegisters p (l ++ replicate (2 ^ p - 2 ^ (p - d)) 0) after)
-      (take-at (lowered d (p - d) (registersOf p before)) (drop (2 ^ (p - d)) (registersOf p before)) (2 ^ (p - d))
-      (lowered-length d (p - d) (registersOf p before)))
-      ∙ ap (withRegisters p (loweredInPlace p d (registersOf p before))) e
-      ∙ with-with p before (pre .holds .room) (lowered d (p - d) (registersOf p before) ++ drop (2 ^ (p - d)) (registersOf p before)) size
-      (loweredInPlace p d (registersOf p before))
+      ∙ ap (λ (l : List ℕ). withRegisters p (take (2 ^ q) l ++ freed) after) (ap (registersOf p) e ∙ of-with p before (pre .holds .room) (row ++ rest) size)
+      ∙ ap (λ (l : List ℕ). withRegisters p (l ++ freed) after) (take-at row rest (2 ^ q) (lowered-length d q (registersOf p before)))
+      ∙ ap (withRegisters p (row ++ freed)) e
+      ∙ with-with p before (pre .holds .room) (row ++ rest) size (row ++ freed)
+      ∙ ap (λ (b : ℕ). withRegisters p (lowered b q (registersOf p before) ++ freed) before) (let g : d ≡ p - (p - d) = omega (arith, pre .fewer) in g)
 
 -- ---- setting the values of a list
 

@@ -14,7 +14,7 @@ use lib.Count.{leadingZeros, leading-le, leading-top, leading-length, leading-un
 use borrow.Author.Tests.{ltb-true, leb-true, lt-ltb, le-ltb, le-leb, eq-eqb, ne-eqb}
 use Rattle.wire.proofs.BoolLaws.{both, both-true}
 use Rattle.wire.proofs.VarintLaws.{side}
-use Rattle.lists.specs.Values.{markBit, mark, marked, valid, sparseIndex, register, plainRank, rank, loweredRank, loweredRegister, Pair, NewPost, IndexPost, RankPost}
+use Rattle.lists.specs.Values.{markBit, mark, marked, valid, sparseIndex, register, plainRank, rank, largestRank, loweredRank, loweredRegister, Pair, NewPost, IndexPost, RankPost}
 
 -- ---- tests
 
@@ -256,7 +256,7 @@ module _ (p s v : ℕ) where
     marked-rank-le : marked p s v ≡ true → rank p s v ≤ 65 - p
     marked-rank-le e = omega (arith, rank-marked e, valid-low p s v e t, pair .above, pair .top)
 
-    pub rank-le : rank p s v ≤ 88 - p
+    pub rank-le : rank p s v ≤ largestRank p
     rank-le =
         ⊎-elim (λ (e : marked p s v ≡ true). omega (arith, marked-rank-le e))
         (λ (e : marked p s v ≡ false).
@@ -437,7 +437,7 @@ module _ {p s flag : ℕ} (v : ℕ) (pair : Pair p s) (f : flag ≡ mark p s) wh
 
 module _ {p s : ℕ} (v r : ℕ) (pair : Pair p s) (t : valid p s v ≡ true) where
   rank-post : r ≡ rank p s v → RankPost p s v r
-  rank-post e = record { value = e; small = subst (λ (x : ℕ). x ≤ 88 - p) (sym e) (rank-le p s v pair t) }
+  rank-post e = record { value = e; small = subst (λ (x : ℕ). x ≤ largestRank p) (sym e) (rank-le p s v pair t) }
 
   pub rank-plain-post : marked p s v ≡ false → r ≡ plainRank (s - p) v → RankPost p s v r
   rank-plain-post e h = rank-post (h ∙ sym (rank-plain p s v e))

@@ -76,22 +76,22 @@ unfoldable pub stepOf : ℕ → ℕ → List ℕ → ℕ → Read ℕ
 stepOf p s l last = andThen (gapOf l) (λ gap rest. let v = (last + gap) % 2 ^ 32 in cond (refusedHere p s last v) (refused 20) (got v rest))
 
 -- What an answer of `next_value` says of the bytes that it read from.
-abbrev pub stepMeans : List ℕ → Step → Read ℕ
-stepMeans bytes (Next v next) = got v (drop next bytes)
-stepMeans bytes (StepRefused n) = refused n
+abbrev pub nextValueMeans : List ℕ → Step → Read ℕ
+nextValueMeans bytes (Next v next) = got v (drop next bytes)
+nextValueMeans bytes (StepRefused n) = refused n
 
-abbrev pub StepInside : List ℕ → ℕ → Step → Type 0
-StepInside bytes at (Next v next) = (at < next) × (next ≤ length bytes)
-StepInside bytes at (StepRefused n) = Unit
+abbrev pub NextValueInside : List ℕ → ℕ → Step → Type 0
+NextValueInside bytes at (Next v next) = (at < next) × (next ≤ length bytes)
+NextValueInside bytes at (StepRefused n) = Unit
 
 abbrev pub stepRefusal : Step → ℕ
 stepRefusal (Next v next) = 0
 stepRefusal (StepRefused n) = n
 
 -- One value after `last`, at a position.
-pub record StepPost (p s : ℕ) (bytes : List ℕ) (at last : ℕ) (r : Step) : Type 0 where
-  pub answer : stepMeans bytes r ≡ stepOf p s (drop at bytes) last
-  pub inside : StepInside bytes at r
+pub record NextValuePost (p s : ℕ) (bytes : List ℕ) (at last : ℕ) (r : Step) : Type 0 where
+  pub answer : nextValueMeans bytes r ≡ stepOf p s (drop at bytes) last
+  pub inside : NextValueInside bytes at r
 
 unfoldable pub allValid : ℕ → ℕ → List ℕ → Bool
 allValid p s [] = true
@@ -100,6 +100,14 @@ allValid p s (v ∷ l) = valid p s v && allValid p s l
 -- "At the end, every value valid?"
 unfoldable pub decodeOf : ℕ → ℕ → List ℕ → Read (List ℕ)
 decodeOf p s l = andThen (sumsOf p s (length l) l 0) (λ vs rest. cond (allValid p s vs) (got vs rest) (refused 20))
+
+-- The last value with the mark bit clear, where v comes after `plain`; and whether that one and the last of all are valid: of the values of a
+-- list that was read these two decide for all.
+abbrev pub laterPlain : ℕ → ℕ → ℕ → ℕ → ℕ
+laterPlain p s plain v = cond (marked p s v) plain v
+
+abbrev pub endsValid : ℕ → ℕ → ℕ → ℕ → Bool
+endsValid p s plain last = valid p s plain && valid p s last
 
 -- The count and the values in the first cells, or the refusal's number.
 abbrev pub Decodes : Read (List ℕ) → Decoded → List ℕ → Type 0
@@ -178,7 +186,7 @@ apartBy d (x ∷ l) = cond (alikeFirst d x l) false (apartBy d l)
 
 -- What a change of the first values of a list into b answers and leaves: a byte count that changes as the written length does, and the cells past b
 -- as they were. One change drops no value and adds no more than two gaps.
-pub record Leaves (list : List ℕ) (len : ℕ) (b : List ℕ) (before : ℕ) (r : Merged) (after : List ℕ) : Type 0 where
+pub record ChangePost (list : List ℕ) (len : ℕ) (b : List ℕ) (before : ℕ) (r : Merged) (after : List ℕ) : Type 0 where
   pub count : r .len ≡ length b
   pub bytes : r .bytes + written (take len list) ≡ before + written b
   pub values : take (r .len) after ≡ b

@@ -29,7 +29,7 @@ InEither a b v = List·Memᴰ v a ⊎ List·Memᴰ v b
 
 -- A marked value of index i.
 pub record MarkedAt (p s i v : ℕ) : Type 0 where
-  pub mark : marked p s v ≡ true
+  pub is-marked : marked p s v ≡ true
   pub index : markedIndex p s v ≡ i
 
 -- A plain value of index i, of the 2^p that a marked value can have.
@@ -52,7 +52,7 @@ pub record MergeSays (p s : ℕ) (a b l : List ℕ) (bytes : ℕ) : Type 0 where
   -- It "ascends strictly".
   pub strictly : Rising 0 l
   -- It "keeps the largest m per index".
-  pub largest : (i v : ℕ) → InEither a b v → MarkedAt p s i v → LargestKept p s a b l i
+  pub largest-m : (i v : ℕ) → InEither a b v → MarkedAt p s i v → LargestKept p s a b l i
   -- It "drops equal plain values": each is there, and as the list ascends strictly, once.
   pub plain : (v : ℕ) → InEither a b v → marked p s v ≡ false → List·Memᴰ v l
   -- "Its byte count is the written length."

@@ -88,9 +88,9 @@ largest (r ∷ regs) = max r (largest regs)
 unfoldable pub clearedFrom : ℕ → ℕ → List ℕ → List ℕ
 clearedFrom p from regs = take from regs ++ replicate (2 ^ p - from) 0
 
--- Registers lowered where they lie: those of the lower precision in front, "freed register bytes are zero".
+-- Registers of precision p lowered to q where they lie: those of the lower precision in front, "freed register bytes are zero".
 abbrev pub loweredInPlace : ℕ → ℕ → List ℕ → List ℕ
-loweredInPlace p d regs = lowered d (p - d) regs ++ replicate (2 ^ p - 2 ^ (p - d)) 0
+loweredInPlace p q regs = lowered (p - q) q regs ++ replicate (2 ^ p - 2 ^ q) 0
 
 -- ---- what the functions of registers ask and promise
 

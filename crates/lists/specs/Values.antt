@@ -46,6 +46,11 @@ plainRank bits v = cond (eqb bits 0) (cond (eqb v 0) 1 (1 + leadingZeros 64 v)) 
 unfoldable pub rank : ℕ → ℕ → ℕ → ℕ
 rank p s v = cond (marked p s v) (markedRank v + (s - p)) (plainRank (s - p) v)
 
+-- The largest rank that a valid value may have: "no register above 88−p". With s = p a plain value's rank is up to 64, and p is up to 24; every
+-- other rank is at most 65 - p. Lowering by d bits adds at most d to a rank, and d to this.
+abbrev pub largestRank : ℕ → ℕ
+largestRank p = 88 - p
+
 -- "Lowering a register of rank r above 0 by d bits: low d index bits zero give r+d, else 1 plus their leading zeros."
 unfoldable pub loweredRank : ℕ → ℕ → ℕ → ℕ
 loweredRank d index r = cond (eqb (index % 2 ^ d) 0) (r + d) (1 + leadingZeros d (index % 2 ^ d))
@@ -78,4 +83,4 @@ pub record IndexPost (p s v r : ℕ) : Type 0 where
 
 pub record RankPost (p s v r : ℕ) : Type 0 where
   pub value : r ≡ rank p s v
-  pub small : r ≤ 88 - p
+  pub small : r ≤ largestRank p

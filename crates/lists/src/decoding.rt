@@ -2,11 +2,10 @@
 // (Apache-2.0, see NOTICE). Changed: a gap is read by a function of its own, unrolled, and one value by another; values go into a lent
 // slice in the place of a closure; an enum and document 01's numbers in the place of `Result` and strings.
 ghost use mathlib.Core.Path.{_≡_};
-ghost use mathlib.Core.Bool.{cond};
 ghost use Prim.Native.Nat.{_<_, _≤_};
 ghost use lib.ListN.{length};
-ghost use Rattle.lists.specs.Values.{marked, SparseFits};
-ghost use Rattle.lists.specs.Lists.{GapPost, StepPost, gapRefusal, stepRefusal, refusedHere, DecodePost};
+ghost use Rattle.lists.specs.Values.{SparseFits};
+ghost use Rattle.lists.specs.Lists.{GapPost, NextValuePost, gapRefusal, stepRefusal, refusedHere, laterPlain, endsValid, DecodePost};
 use crate::values;
 use crate::values::Sparse;
 
@@ -103,7 +102,7 @@ fn gap_refusal(g: Gap) -> u8
     }
 }
 
-fn step_refusal(r: Step) -> u8
+pub fn step_refusal(r: Step) -> u8
     ensures { λ n. ⌜ n ≡ stepRefusal r ⌝ }
 {
     match r {
@@ -127,9 +126,9 @@ fn refused_here(enc: Sparse, last: u32, v: u32) -> bool
 }
 
 // The value after `last`, whose gap is at `at`.
-pub(crate) fn next_value(bytes: &[u8], enc: Sparse, at: usize, last: u32) -> Step
+pub fn next_value(bytes: &[u8], enc: Sparse, at: usize, last: u32) -> Step
     requires { ⌜ SparseFits enc ⌝ }
-    ensures { λ r. ⌜ StepPost (enc .«normal_precision») (enc .«sparse_precision») (now (bytes .entry)) at last r ⌝ }
+    ensures { λ r. ⌜ NextValuePost (enc .«normal_precision») (enc .«sparse_precision») (now (bytes .entry)) at last r ⌝ }
 {
     let g = read_gap(bytes, at);
     let Gap::Value(gap, next) = g else {
@@ -143,9 +142,9 @@ pub(crate) fn next_value(bytes: &[u8], enc: Sparse, at: usize, last: u32) -> Ste
 }
 
 // The last value with the mark bit clear, where v comes after `plain`.
-fn later_plain(enc: Sparse, plain: u32, v: u32) -> u32
+pub fn later_plain(enc: Sparse, plain: u32, v: u32) -> u32
     requires { ⌜ SparseFits enc ⌝ }
-    ensures { λ r. ⌜ r ≡ cond (marked (enc .«normal_precision») (enc .«sparse_precision») v) plain v ⌝ }
+    ensures { λ r. ⌜ r ≡ laterPlain (enc .«normal_precision») (enc .«sparse_precision») plain v ⌝ }
 {
     if values::is_rho_encoded(enc, v) {
         plain
@@ -154,8 +153,19 @@ fn later_plain(enc: Sparse, plain: u32, v: u32) -> u32
     }
 }
 
-// A list's values, into `out`. The values do not descend, so that the last one with the mark bit clear and the last one of all are valid
-// only where all are: the others are not tested at the end. Both start as 0, which is valid.
+// Whether every value of a list is valid, by two of them: the last one with the mark bit clear and the last one of all, each 0 where there is
+// none. The values do not descend, so that these are valid only where all are: the others are not tested at the end.
+pub fn ends_valid(enc: Sparse, plain: u32, last: u32) -> bool
+    requires { ⌜ SparseFits enc ⌝ }
+    ensures { λ r. ⌜ r ≡ endsValid (enc .«normal_precision») (enc .«sparse_precision») plain last ⌝ }
+{
+    if !values::is_valid(enc, plain) {
+        return false;
+    }
+    values::is_valid(enc, last)
+}
+
+// A list's values, into `out`.
 pub fn decode_validated_into(bytes: &[u8], enc: Sparse, out: &mut [u32]) -> Decoded
     requires { ⌜ SparseFits enc ⌝ }
     requires { ⌜ length (now bytes) ≤ length (now out) ⌝ }
@@ -176,10 +186,7 @@ pub fn decode_validated_into(bytes: &[u8], enc: Sparse, out: &mut [u32]) -> Deco
         k += 1;
         at = next;
     }
-    if !values::is_valid(enc, plain) {
-        return Decoded::Refused(20);
-    }
-    if !values::is_valid(enc, last) {
+    if !ends_valid(enc, plain, last) {
         return Decoded::Refused(20);
     }
     Decoded::Done(k)

@@ -16,7 +16,7 @@ use crate::values;
 use crate::values::Sparse;
 
 // The larger of two registers, with no branch in a loop.
-fn larger(x: u8, y: u8) -> u8
+fn max_u8(x: u8, y: u8) -> u8
     ensures { λ r. ⌜ r ≡ max x y ⌝ }
 {
     if x < y { y } else { x }
@@ -59,7 +59,7 @@ pub fn raise_register(registers: &mut [u8], i: usize, rank: u8)
     requires { ⌜ HoldsFirst (i + 1) (now registers) ⌝ }
     ensures { λ _. ⌜ RaisePost (now (registers .entry)) i rank (now (registers .exit)) ⌝ }
 {
-    registers[i] = larger(registers[i], rank);
+    registers[i] = max_u8(registers[i], rank);
 }
 
 // Each register becomes the larger of itself and the source's.
@@ -140,7 +140,7 @@ pub fn largest_register(registers: &[u8], p: u32) -> u8
     let mut top: u8 = 0;
     let mut i: usize = 0;
     while i != n {
-        top = larger(top, read_register(registers, i));
+        top = max_u8(top, read_register(registers, i));
         i += 1;
     }
     top
@@ -215,7 +215,7 @@ fn lower_blocks(registers: &mut [u8], p: u32, d: u32)
 // Registers of precision p become those of p - d, and the freed ones zero.
 pub fn lower_registers(registers: &mut [u8], p: u32, d: u32)
     requires { ⌜ LowerPre p d (now registers) ⌝ }
-    ensures { λ _. ⌜ now (registers .exit) ≡ withRegisters p (loweredInPlace p d (registersOf p (now (registers .entry)))) (now (registers .entry)) ⌝ }
+    ensures { λ _. ⌜ now (registers .exit) ≡ withRegisters p (loweredInPlace p (p - d) (registersOf p (now (registers .entry)))) (now (registers .entry)) ⌝ }
 {
     lower_blocks(registers, p, d);
     clear_from(registers, p, register_count(p - d));

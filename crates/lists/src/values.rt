@@ -14,7 +14,7 @@ pub struct Sparse {
 }
 
 // The larger of two numbers.
-pub(crate) fn larger(a: u32, b: u32) -> u32
+pub(crate) fn max_u32(a: u32, b: u32) -> u32
     ensures { λ r. ⌜ r ≡ max a b ⌝ }
 {
     if a < b { b } else { a }
@@ -25,7 +25,7 @@ impl Sparse {
         requires { ⌜ Pair «normal_precision» «sparse_precision» ⌝ }
         ensures { λ r. ⌜ NewPost «normal_precision» «sparse_precision» r ⌝ }
     {
-        let bit = larger(sparse_precision, normal_precision + 6);
+        let bit = max_u32(sparse_precision, normal_precision + 6);
         Sparse {
             normal_precision,
             sparse_precision,

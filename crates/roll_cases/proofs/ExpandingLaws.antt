@@ -131,9 +131,9 @@ module _ (piece out last : List ℕ) (at left : ℕ) (r : Bytes) (inside : at �
       by none f h m g = not-some g
       by (some a) f h m g = omega (arith, h, hex-length piece a f, ap length (ap bytesIn g), length-append (take at out) a, length-take-le at out inside)
 
-      long : (hexOf piece ≡ none) ⊎ (length (midOf at (length out - at) out) < length piece / 2) → (m : List ℕ) → onto (take at out) (hexOf piece) ≡ some m → length out < length m
-      long (inl f) m g = not-some (sym (ap (onto (take at out)) f) ∙ g)
-      long (inr h) m g = by (hexOf piece) refl (omega (arith, h, mid-len at (length out) out (omega arith))) m g
+      long : BytesPost piece (midOf at (length out - at) out) Other last → (m : List ℕ) → onto (take at out) (hexOf piece) ≡ some m → length out < length m
+      long (inl f) m g = not-some (sym (ap (onto (take at out)) (f .0)) ∙ g)
+      long (inr h) m g = by (hexOf piece) refl (omega (arith, h .0, mid-len at (length out) out (omega arith))) m g
 
 -- ---- a word
 

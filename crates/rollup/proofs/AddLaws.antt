@@ -1,10 +1,11 @@
 -- Adding: the questions one after the other, and what a refusal and an accepted state leave. `addOutcome` is unfolded here alone.
-use Prim.Native.Nat.{ℕ}
-use mathlib.Core.Path.{_≡_, refl, sym, ap, subst, _∙_}
+use Prim.Native.Nat.{ℕ, _*_, _≤_}
+use mathlib.Core.Path.{_≡_, refl, sym, ap, ap₂, subst, _∙_}
 use mathlib.Core.Bool.{Bool, true, false}
 use mathlib.Core.List.{List, [], List·Permᴰ, Permᴰ·refl}
 use native.Mathlib.Omega.{arith}
 use lib.ListN.{length, take}
+use lib.Seq.{length-take-le}
 use Rattle.wire.specs.Reading.{Read, got, refused}
 use Rattle.wire.specs.State.{State, stateOf}
 use Rattle.wire.specs.declared.state.Fields.{Fields}
@@ -12,20 +13,24 @@ use Rattle.lists.specs.declared.decoding.Decoded.{Decoded}
 use Rattle.lists.specs.declared.decoding.Decoded.the-variants.{Done, Refused}
 use Rattle.lists.specs.Lists.{Decodes}
 use Rattle.lists.proofs.DecodingLaws.{accepted}
-use Rattle.rollup.specs.declared.accumulator.Form.{Form}
-use Rattle.rollup.specs.declared.accumulator.Form.the-variants.{Unstarted, Sparse, Dense}
 use Rattle.rollup.specs.declared.judging.Judged.{Judged}
 use Rattle.rollup.specs.declared.judging.Judged.the-variants.{State as JudgedState, Refused as JudgedRefused}
 use Rattle.rollup.specs.declared.accumulator.Accumulator.{Accumulator}
-use Rattle.rollup.specs.Accumulator.{Mem, mem, fits}
-use Rattle.rollup.specs.Header.{listOf}
-use Rattle.rollup.specs.Adding.{Outcome, refuse, accept, acceptedAfter, judge, hasRoom, listedIn, question, opened, addOutcome, judgeState, Shows, Free, AddPost}
+use Rattle.rollup.specs.declared.incoming.Incoming.{Incoming}
+use Rattle.rollup.specs.declared.paths.Path.{Path}
+use Rattle.rollup.specs.declared.adding.AddedFitting.{AddedFitting}
+use Rattle.rollup.specs.Accumulator.{Mem, keptOf, fits}
+use Rattle.rollup.specs.Header.{dataOf, listOf}
+use Rattle.rollup.specs.Taking.{After, pathOf, takenAfter}
+use Rattle.rollup.specs.Adding.{Outcome, refuse, accept, numbersOf, stateNumbers, acceptedAfter, judge, hasRoom, listedIn, question, opened, addOutcome, judgeAnswer, Shows, Free, AddPost}
 use Rattle.rollup.specs.Judging.{judgedRefusal, JudgePost, RoomPre, ListedPre}
-use Rattle.rollup.specs.DensePaths.{DensePost}
-use Rattle.rollup.specs.Accepting.{AcceptPre, decodedRefusal}
-use Rattle.rollup.specs.Taking.{After, sparseAfter}
-use Rattle.rollup.specs.Starting.{StartPost}
+use Rattle.rollup.specs.Paths.{KnownDistinct, PathPre}
+use Rattle.rollup.specs.Accepting.{TakePre, TakingPre, distinctAfter, AcceptPre, decodedRefusal, AcceptPost, FittingPost}
+use Rattle.rollup.proofs.FitLaws.{fit-sparse}
 use Rattle.rollup.proofs.JudgeLaws.{judged-state, judged-short, judged-no, listed-pre}
+use Rattle.rollup.proofs.TakeLaws.{fit-kept, Ready, ready-takes}
+use Rattle.rollup.proofs.KeepsLaws.{taken-keeps}
+use Rattle.rollup.proofs.DistinctLaws.{distinct-after}
 
 -- ---- a question that is answered with yes, and one with no
 
@@ -104,24 +109,67 @@ module _ (a : Accumulator) (m : Mem) (room : ℕ) (bytes : List ℕ) where
         free = same;
       }
 
--- ---- the path, by the form
+-- ---- an accepted state goes its path
 
-module _ (a : Accumulator) (registers sparse pending : List ℕ) (scratch : List ℕ) (st : State) (k : ℕ) where
-  pub path-start : (r : Accumulator) (after left : List ℕ) → a .form ≡ Unstarted → StartPost registers st (take k scratch) r after left
-      → Shows (acceptedAfter (a .form) a (mem registers sparse pending) st (take k scratch)) r (mem after left pending)
-  path-start r after left e post =
-      subst (λ (f : Form). Shows (acceptedAfter f a (mem registers sparse pending) st (take k scratch)) r (mem after left pending)) (sym e)
-      (post .shows sparse pending)
+module _ {a : Accumulator} {distinct : Bool} {m : Mem} {scratch : List ℕ} {st : State} {k : ℕ} (pre : AcceptPre a distinct m scratch st k) where
+  abbrev vs : List ℕ
+  vs = take k scratch
 
-  pub path-sparse : (r : Accumulator) (n : Mem) → a .form ≡ Sparse → Shows (sparseAfter a (mem registers sparse pending) st (take k scratch)) r n
-      → Shows (acceptedAfter (a .form) a (mem registers sparse pending) st (take k scratch)) r n
-  path-sparse r n e shows = subst (λ (f : Form). Shows (acceptedAfter f a (mem registers sparse pending) st (take k scratch)) r n) (sym e) shows
+  count : length vs ≡ k
+  count = length-take-le k scratch (pre .inside)
 
-  pub path-dense : (r : Accumulator) (after : List ℕ) → a .form ≡ Dense → DensePost a registers st (take k scratch) r after
-      → Shows (acceptedAfter (a .form) a (mem registers sparse pending) st (take k scratch)) r (mem after sparse pending)
-  path-dense r after e post =
-      subst (λ (f : Form). Shows (acceptedAfter f a (mem registers sparse pending) st (take k scratch)) r (mem after sparse pending)) (sym e)
-      (post .shows sparse pending)
+  pub accept-few : k ≤ 2147483647
+  accept-few = omega (arith, count, pre .taken .incoming-short)
+
+  -- The values that are kept are there, whatever the form.
+  pub accept-kept : a .«sparse_len» ≤ length (m .sparse)
+  accept-kept = fit-kept a m (pre .taken .fit)
+
+  module _ (x : Incoming) (list : List ℕ) (there : list ≡ listOf st) (numbers : x ≡ numbersOf st (length list) k) where
+    is-state : x ≡ stateNumbers st vs
+    is-state = numbers ∙ ap₂ (numbersOf st) (ap length there) (sym count)
+
+    pub accept-path : PathPre a x (keptOf a m) k distinct
+    accept-path f =
+        let s = fit-sparse a m (pre .taken .fit) f in
+        record {
+          wait =
+              record {
+                low = s .pair .low;
+                high = s .pair .high;
+                bytes = s .bytes-high;
+                few = s .few;
+                growth = subst (λ (y : Incoming). y .growth ≤ 5 * 2147483647) (sym is-state) (pre .taken .growth-high);
+                incoming = accept-few;
+              };
+          insert = record { pair = s .pair; order = s .order; all = s .kept-valid; known = pre .known };
+        }
+
+    module _ (path : Path) (its : path ≡ pathOf (a .form) a (keptOf a m) x k) (row : List ℕ) (same : row ≡ dataOf st) where
+      pub accept-taking : TakingPre a m scratch x path row k
+      accept-taking =
+          record {
+            inside = pre .inside;
+            taken =
+                subst (λ (y : Incoming). TakePre a m (length scratch) y row vs) (sym is-state)
+                (subst (λ (l : List ℕ). TakePre a m (length scratch) (stateNumbers st vs) l vs) (sym same) (pre .taken));
+            its = its;
+          }
+
+      pub accept-post : (r : Accumulator) (n : Mem) (known : Bool) → known ≡ distinctAfter (a .form) path distinct
+          → Shows (takenAfter (a .form) a m x row vs) r n → AcceptPost a m st vs (record { answer = 0; head = r; distinct = known }) n
+      accept-post r n known e shows =
+          let shown : Shows (acceptedAfter (a .form) a m st vs) r n =
+          subst (λ (y : Incoming). Shows (takenAfter (a .form) a m y (dataOf st) vs) r n) is-state
+          (subst (λ (l : List ℕ). Shows (takenAfter (a .form) a m x l vs) r n) same shows) in
+          record {
+            answer = refl;
+            after = shown;
+            known =
+                subst (λ (b : Bool). KnownDistinct b (r .precision) (r .«sparse_precision») (keptOf r n)) (sym e)
+                (distinct-after (pre .taken) distinct (pre .known) path
+                (its ∙ ap₂ (λ (y : Incoming) (j : ℕ). pathOf (a .form) a (keptOf a m) y j) is-state (sym count)) r n shown);
+          }
 
 -- ---- the stages, as the code has them
 
@@ -154,11 +202,11 @@ module _ (a : Accumulator) (m : Mem) (room : ℕ) (bytes : List ℕ) (fit : fits
     is-state : JudgePost a bytes (JudgedState f)
     is-state = subst (JudgePost a bytes) e post
 
-    state-judged : judgeState a (stateOf bytes f) ≡ got (stateOf bytes f) []
+    state-judged : judgeAnswer a (stateOf bytes f) ≡ 0
     state-judged = judged-state a bytes f is-state
 
     pub room-pre : RoomPre a m (stateOf bytes f)
-    room-pre = record { fit = fit; judged = state-judged }
+    room-pre = record { fit = fit; judged = state-judged; short = judged-short a bytes f is-state }
 
     pub room-stop : hasRoom a m room (stateOf bytes f) ≡ false → AddPost a m room bytes (record { answer = 17; head = a }) m
     room-stop h = refused-post a m room bytes 17 (add-full a m room bytes (stateOf bytes f) [] fit (sym (is-state .answer)) h)
@@ -185,23 +233,34 @@ module _ (a : Accumulator) (m : Mem) (room : ℕ) (bytes : List ℕ) (fit : fits
             ∙ ap (λ (l : List ℕ). got (take k out) l)
             (accepted (f .hll .precision) (f .hll .«sparse_precision») (listOf (stateOf bytes f)) (values .read) .end)
 
-        pub accept-pre : AcceptPre a m out (stateOf bytes f) k
-        accept-pre =
-            let few = accepted (f .hll .precision) (f .hll .«sparse_precision») (listOf (stateOf bytes f)) (values .read) .fewer in
+        ready : Ready a m (length out) (stateOf bytes f) (take k out)
+        ready =
             record {
-              inside = omega (arith, few, values .count, list-pre .space, same);
-              ready =
-                  record {
-                    fit = fit;
-                    judged = state-judged;
-                    space = subst (λ (n : ℕ). hasRoom a m n (stateOf bytes f) ≡ true) (sym same) there;
-                    listed = list-end;
-                    short = judged-short a bytes f is-state;
-                  };
+              fit = fit;
+              judged = state-judged;
+              space = subst (λ (n : ℕ). hasRoom a m n (stateOf bytes f) ≡ true) (sym same) there;
+              listed = list-end;
+              short = judged-short a bytes f is-state;
             }
 
-        pub all-accepted : (h : Accumulator) (n : Mem) → Shows (acceptedAfter (a .form) a m (stateOf bytes f) (take k out)) h n → Free m n
-            → AddPost a m room bytes (record { answer = 0; head = h }) n
-        all-accepted h n shows free =
-            accepted-post a m room bytes (acceptedAfter (a .form) a m (stateOf bytes f) (take k out)) h n
-            (add-accepted a m room bytes (stateOf bytes f) [] fit (sym (is-state .answer)) (take k out) [] there list-end) shows free
+        pub accept-pre : (distinct : Bool) → KnownDistinct distinct (a .precision) (a .«sparse_precision») (keptOf a m)
+            → AcceptPre a distinct m out (stateOf bytes f) k
+        accept-pre distinct known =
+            let few = accepted (f .hll .precision) (f .hll .«sparse_precision») (listOf (stateOf bytes f)) (values .read) .fewer in
+            record { inside = omega (arith, few, values .count, list-pre .space, same); taken = ready-takes ready; known = known }
+
+        pub all-accepted : (r : AddedFitting) (n : Mem) → AcceptPost a m (stateOf bytes f) (take k out) r n → Free m n → FittingPost a m room bytes r n
+        all-accepted r n post free =
+            record {
+              added =
+                  subst (λ (z : ℕ). AddPost a m room bytes (record { answer = z; head = r .head }) n) (sym (post .answer))
+                  (accepted-post a m room bytes (acceptedAfter (a .form) a m (stateOf bytes f) (take k out)) (r .head) n
+                  (add-accepted a m room bytes (stateOf bytes f) [] fit (sym (is-state .answer)) (take k out) [] there list-end) (post .after) free);
+              sound =
+                  record {
+                    fit =
+                        taken-keeps a m (length out) (stateNumbers (stateOf bytes f) (take k out)) (dataOf (stateOf bytes f)) (take k out) (ready-takes ready) (r .head) n
+                        (post .after);
+                    known = post .known;
+                  };
+            }

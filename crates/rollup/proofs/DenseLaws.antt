@@ -3,7 +3,7 @@ use Prim.Native.Nat.{ℕ, _+_, _-_, _%_, _^_, _<_, _≤_, min}
 use mathlib.Core.Path.{_≡_, refl, sym, ap, ap₂, subst, _∙_}
 use mathlib.Core.Bool.{Bool, true, cond}
 use mathlib.Core.List.{List, [], _++_, append-nil, List·Permᴰ, List·Permᴰ·nil}
-use native.Mathlib.Nat.{min-eq-left, min-eq-right, min-le-left, min-le-right, le-trans, le-of-eq, pos-of-ne-zero}
+use native.Mathlib.Nat.{min-le-left, min-le-right, le-trans, pos-of-ne-zero}
 use native.Mathlib.Omega.{arith}
 use lib.Dec.{ltb}
 use lib.ListN.{length, take, replicate, length-append, length-replicate}
@@ -32,39 +32,31 @@ signed-first x y a b e f h = sym (ap (λ (t : Bool). cond t y x) (ap₂ ltb (sym
 
 -- ---- the roll-up's own registers
 
--- Lowered in place they are those of the lower precision, and those that are freed.
-in-place : (p q : ℕ) (regs : List ℕ) → q ≤ p → loweredInPlace p (p - q) regs ≡ lowered (p - q) q regs ++ replicate (2 ^ p - 2 ^ q) 0
-in-place p q regs h = ap (λ (k : ℕ). lowered (p - q) k regs ++ replicate (2 ^ p - 2 ^ k) 0) (let e : p - (p - q) ≡ q = omega arith in e)
-
 -- Lowered by no bits, they are as they were.
 own-same : (p : ℕ) (registers : List ℕ) → registerBytes p ≤ length registers
-    → withRegisters p (loweredInPlace p (p - p) (registersOf p registers)) registers ≡ registers
+    → withRegisters p (loweredInPlace p p (registersOf p registers)) registers ≡ registers
 own-same p registers room =
-    ap (λ (l : List ℕ). withRegisters p l registers)
-    (in-place p p (registersOf p registers) (le-of-eq refl)
-    ∙ ap₂ (λ (d n : ℕ). lowered d p (registersOf p registers) ++ replicate n 0) (let e : p - p ≡ 0 = omega arith in e)
-    (let e : 2 ^ p - 2 ^ p ≡ 0 = omega arith in e)
-    ∙ append-nil (lowered 0 p (registersOf p registers))
-    ∙ registers-same p (registersOf p registers) (of-length p registers room))
+    ap₂ (λ (d n : ℕ). withRegisters p (lowered d p (registersOf p registers) ++ replicate n 0) registers)
+    (let e : p - p ≡ 0 = omega arith in e) (let e : 2 ^ p - 2 ^ p ≡ 0 = omega arith in e)
+    ∙ ap (λ (l : List ℕ). withRegisters p l registers)
+    (append-nil (lowered 0 p (registersOf p registers)) ∙ registers-same p (registersOf p registers) (of-length p registers room))
     ∙ with-of p registers room
 
 module _ (p other : ℕ) (registers : List ℕ) (pre : LowerOwnPre p registers) where
-  abbrev Lowered : ℕ → List ℕ → ℕ → Type 0
-  Lowered r after q = (r ≡ q) × (after ≡ withRegisters p (loweredInPlace p (p - q) (registersOf p registers)) registers)
+  abbrev loweredTo : ℕ → List ℕ
+  loweredTo q = withRegisters p (loweredInPlace p q (registersOf p registers)) registers
 
   pub own-kept : p ≤ other → LowerOwnPost p other registers p registers
   own-kept h =
-      let x = subst (Lowered p registers) (sym (min-eq-left h)) (refl, sym (own-same p registers (pre .room))) in
-      record { smaller = x .0; left = x .1 }
+      let e : p ≡ min p other = omega arith in
+      record { smaller = e; left = sym (own-same p registers (pre .room)) ∙ ap loweredTo e }
 
   pub own-lower : other < p → LowerPre p (p - other) registers
   own-lower h = record { holds = record { high = pre .high; room = pre .room }; fewer = omega arith; small = omega (arith, pre .small) }
 
-  pub own-lowered : (after : List ℕ) → other < p → after ≡ withRegisters p (loweredInPlace p (p - other) (registersOf p registers)) registers
+  pub own-lowered : (after : List ℕ) → other < p → after ≡ withRegisters p (loweredInPlace p (p - (p - other)) (registersOf p registers)) registers
       → LowerOwnPost p other registers other after
-  own-lowered after h e =
-      let x = subst (Lowered other after) (sym (min-eq-right (let g : other ≤ p = omega arith in g))) (refl, e) in
-      record { smaller = x .0; left = x .1 }
+  own-lowered after h e = record { smaller = omega arith; left = e ∙ ap loweredTo (let f : p - (p - other) ≡ min p other = omega arith in f) }
 
 -- ---- a row
 
@@ -245,16 +237,10 @@ module _ (a : Accumulator) (registers : List ℕ) (x : Incoming) (row vs : List 
   common-low = omega (arith, pre .own-low, pre .low)
 
   module _ (q : ℕ) (after : List ℕ) (post : LowerOwnPost (a .precision) (x .precision) registers q after) where
-    left : after ≡ withRegisters (a .precision) (own ++ freed) registers
-    left =
-        post .left
-        ∙ ap (λ (l : List ℕ). withRegisters (a .precision) l registers)
-        (in-place (a .precision) common (registersOf (a .precision) registers) (min-le-left (a .precision) (x .precision)))
-
     after-room : registerBytes common ≤ length after
     after-room =
         le-trans (fewer-bytes common (a .precision) (min-le-left (a .precision) (x .precision)))
-        (with-room (a .precision) registers (pre .own .room) (own ++ freed) both-length after left)
+        (with-room (a .precision) registers (pre .own .room) (own ++ freed) both-length after (post .left))
 
     pub dense-raise : RaisePre q x row vs after
     dense-raise =
@@ -275,7 +261,7 @@ module _ (a : Accumulator) (registers : List ℕ) (x : Incoming) (row vs : List 
     raised-all last e =
         e
         ∙ ap (λ (n : ℕ). withRegisters n (raisedTo n x row vs (registersOf n after)) after) (post .smaller)
-        ∙ ap (λ (l : List ℕ). withRegisters common (raisedTo common x row vs (registersOf common l)) l) left
+        ∙ ap (λ (l : List ℕ). withRegisters common (raisedTo common x row vs (registersOf common l)) l) (post .left)
         ∙ ap (λ (l : List ℕ). withRegisters common (raisedTo common x row vs l) (withRegisters (a .precision) (own ++ freed) registers))
         (of-front common (a .precision) own freed registers own-length)
         ∙ with-front common (a .precision) own freed registers own-length (raisedTo common x row vs own)

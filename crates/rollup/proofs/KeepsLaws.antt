@@ -154,9 +154,9 @@ module _ (a : Accumulator) (m : Mem) (room : ℕ) (st : State) (vs : List ℕ) (
   unfolding hasRoom
   registers-room f e =
       let w = leb (registerBytes (wantedPrecision (a .form) a st)) (length (m .registers)) in
-      let k = leb (wantedCells a st) (length (m .sparse)) in
-      let q = leb (wantedCells a st) (length (m .pending)) in
-      let c = leb (wantedCells a st) room in
+      let k = leb (wantedCells a (length (listOf st))) (length (m .sparse)) in
+      let q = leb (wantedCells a (length (listOf st))) (length (m .pending)) in
+      let c = leb (wantedCells a (length (listOf st))) room in
       subst (λ (g : Form). registerBytes (wantedPrecision g a st) ≤ length (m .registers)) e
       (leb-true (registerBytes (wantedPrecision (a .form) a st)) (length (m .registers)) (both-true w k (both-true (w && k) q (both-true (w && k && q) c (ready .space) .0) .0) .0))
 

@@ -4,6 +4,7 @@ pub mod DenseLaws
 pub mod AddLaws
 pub mod FitLaws
 pub mod JudgeLaws
+pub mod TakeLaws
 pub mod SparseLaws
 pub mod WaysLaws
 pub mod WriteLaws

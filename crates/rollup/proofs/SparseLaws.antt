@@ -10,21 +10,19 @@ use lib.Bits.{bitAnd}
 use lib.Dec.{leb, eqb}
 use lib.ListN.{length, take, length-replicate, length-append}
 use lib.Seq.{length-take-le, take-at}
-use lib.Pow.{pow-mono}
 use Rattle.wire.proofs.BoolLaws.{both-true}
 use Rattle.wire.proofs.VarintLaws.{side}
 use borrow.Author.Tests.{lt-ltb, le-ltb, le-leb, lt-leb, eq-eqb, ne-eqb, eqb-true, leb-true, not-false}
 use Rattle.lists.specs.declared.values.Sparse.{Sparse as Encoding}
 use Rattle.lists.specs.declared.merging.Merged.{Merged}
-use Rattle.lists.specs.Values.{Pair, SparseFits, NewPost}
+use Rattle.lists.specs.Values.{SparseFits, NewPost}
 use Rattle.lists.specs.Sorting.{ascends, sortOf}
 use Rattle.lists.specs.Lists.{allValid, written, merged, distinctSlots, MergePost, InsertPre, InsertPost}
 use Rattle.lists.specs.Merging.{MergePre}
 use Rattle.lists.specs.Registers.{registerBytes, registersOf, withRegisters, zeros, raisedBy, larger}
 use Rattle.lists.proofs.OrderLaws.{ascends-sort, length-sort, perm-sort}
-use Rattle.lists.proofs.MergeLaws.{valid-append, valid-sort, merged-perm, merged-valid, length-merged, length-encode}
-use Rattle.lists.specs.Lists.{encodeList}
-use Rattle.lists.proofs.DecodingLaws.{Accepted, accepted, decode-encode}
+use Rattle.lists.proofs.MergeLaws.{valid-append, valid-sort, merged-perm, merged-valid, length-merged}
+use Rattle.lists.proofs.DecodingLaws.{Accepted, accepted}
 use Rattle.lists.proofs.RegisterLaws.{of-with, with-room, with-with, row-registers}
 use Rattle.lists.proofs.RankLaws.{raised-append, zeros-raised}
 use Rattle.rollup.specs.declared.accumulator.Form.{Form}
@@ -609,24 +607,24 @@ pub record SparseKnown (a : Accumulator) (m : Mem) (room : ℕ) (st : State) (vs
 -- The parts of question 17.
 record Spaces (a : Accumulator) (m : Mem) (room : ℕ) (st : State) : Type 0 where
   registers-fit : wantedRegisters a st ≤ length (m .registers)
-  sparse-fit : wantedCells a st ≤ length (m .sparse)
-  pending-fit : wantedCells a st ≤ length (m .pending)
-  scratch-fit : wantedCells a st ≤ room
+  sparse-fit : wantedCells a (length (listOf st)) ≤ length (m .sparse)
+  pending-fit : wantedCells a (length (listOf st)) ≤ length (m .pending)
+  scratch-fit : wantedCells a (length (listOf st)) ≤ room
 
 spaces : (a : Accumulator) (m : Mem) (room : ℕ) (st : State) → hasRoom a m room st ≡ true → Spaces a m room st
 unfolding hasRoom
 spaces a m room st e =
     let r = leb (wantedRegisters a st) (length (m .registers)) in
-    let s = leb (wantedCells a st) (length (m .sparse)) in
-    let p = leb (wantedCells a st) (length (m .pending)) in
-    let w = leb (wantedCells a st) room in
+    let s = leb (wantedCells a (length (listOf st))) (length (m .sparse)) in
+    let p = leb (wantedCells a (length (listOf st))) (length (m .pending)) in
+    let w = leb (wantedCells a (length (listOf st))) room in
     let e3 = both-true (r && s && p) w e .0 in
     let e2 = both-true (r && s) p e3 .0 in
     record {
       registers-fit = leb-true (wantedRegisters a st) (length (m .registers)) (both-true r s e2 .0);
-      sparse-fit = leb-true (wantedCells a st) (length (m .sparse)) (both-true r s e2 .1);
-      pending-fit = leb-true (wantedCells a st) (length (m .pending)) (both-true (r && s) p e3 .1);
-      scratch-fit = leb-true (wantedCells a st) room (both-true (r && s && p) w e .1);
+      sparse-fit = leb-true (wantedCells a (length (listOf st))) (length (m .sparse)) (both-true r s e2 .1);
+      pending-fit = leb-true (wantedCells a (length (listOf st))) (length (m .pending)) (both-true (r && s) p e3 .1);
+      scratch-fit = leb-true (wantedCells a (length (listOf st))) room (both-true (r && s && p) w e .1);
     }
 
 pub known : (a : Accumulator) (m : Mem) (room : ℕ) (st : State) (vs : List ℕ) → a .form ≡ Sparse → Ready a m room st vs → SparseKnown a m room st vs
@@ -641,7 +639,7 @@ known a m room st vs f x =
       in-registers = subst (λ (n : ℕ). n ≤ length (m .registers)) bytes (r .registers-fit);
       size = λ (n : length (dataOf st) ≡ 0 → ⊥). j .size (pos-of-ne-zero n) ∙ ap (λ (q : ℕ). 2 ^ q) p;
       in-lists = λ (n : length (listOf st) ≡ 0 → ⊥).
-          let cells : wantedCells a st ≡ a .«sparse_len» + a .«pending_len» + length (listOf st) =
+          let cells : wantedCells a (length (listOf st)) ≡ a .«sparse_len» + a .«pending_len» + length (listOf st) =
           ap (λ (b : Bool). cond b 0 (a .«sparse_len» + a .«pending_len» + length (listOf st))) (ne-eqb (length (listOf st)) 0 n) in
           record { in-sparse = omega (arith, cells, r .sparse-fit); in-pending = omega (arith, cells, r .pending-fit); in-scratch = omega (arith, cells, r .scratch-fit) };
       taken =
@@ -657,21 +655,6 @@ bytes-there l t e it z = true≢false (sym it ∙ e ∙ ap not (eq-eqb (length l
 
 pub bytes-none : (l : List ℕ) (t : Bool) → t ≡ not (isEmpty l) → t ≡ false → length l ≡ 0
 bytes-none l t e it = eqb-true (length l) 0 (not-false (isEmpty l) (sym e ∙ it))
-
--- A value is written in a byte or more.
-length-written : (p s : ℕ) (l : List ℕ) → Pair p s → ascends l ≡ true → allValid p s l ≡ true → length l ≤ written l
-length-written p s l pair o v = omega (arith, accepted p s (encodeList l) (decode-encode pair l o v) .fewer, length-encode l)
-
--- As each value that is kept takes a byte, and few wait, the counts are small.
-pub counts-short : {a : Accumulator} {m : Mem} → FitSparse a m → a .«sparse_len» + a .«pending_len» ≤ 2147483647
-counts-short {a} {m} x =
-    let top : 2 ^ (a .precision - 2) ≤ 2 ^ 22 = pow-mono (let h : a .precision - 2 ≤ 22 = omega (arith, x .pair .high) in h) in
-    let kept = length-written (a .precision) (a .«sparse_precision») (keptOf a m) (x .pair) (x .order) (x .kept-valid) in
-    let len = length-take-le (a .«sparse_len») (m .sparse) (x .kept-in) in
-    ⊎-elim
-    (λ (w : 0 < a .«pending_len»). omega (arith, top, kept, len, x .bytes-low, x .wait w))
-    (λ (w : a .«pending_len» ≤ 0). omega (arith, kept, len, x .bytes-low, x .bytes-high))
-    (side 0 (a .«pending_len»))
 
 module _ {a : Accumulator} {m : Mem} {room : ℕ} {st : State} {vs : List ℕ} (x : SparseKnown a m room st vs) where
   pub data-pre : (length (dataOf st) ≡ 0 → ⊥) → (h : Accumulator) (row : List ℕ) → h ≡ countedBy a m st → row ≡ dataOf st

@@ -1,79 +1,27 @@
 -- One view of a call: it was refused, with a number and nothing changed, or accepted, with all that the questions told. And what follows of both:
 -- whatever a call was and answered, what it leaves fits again. No file but AddLaws and this one looks at the questions of `addOutcome`.
-use Prim.Native.Nat.{ℕ, _^_, _<_, _≤_}
+use Prim.Native.Nat.{ℕ, _^_, _<_}
 use mathlib.Core.Path.{_≡_, refl, sym, ap, _∙_, subst}
-use mathlib.Core.Bool.{Bool, true, false, cond}
+use mathlib.Core.Bool.{Bool, true, false}
 use mathlib.Core.Logic.{_⊎_, inl, inr, ⊎-elim}
 use mathlib.Core.List.{List, [], _++_}
-use native.Mathlib.Nat.{pos-of-ne-zero}
 use native.Mathlib.Omega.{arith}
-use lib.Dec.{leb, eqb}
-use lib.ListN.{length}
-use borrow.Author.Tests.{leb-true, eqb-false}
-use Rattle.wire.specs.Reading.{Read, got, refused, andThen}
+use Rattle.wire.specs.Reading.{Read, got, refused}
 use Rattle.wire.specs.State.{State, emptyState, readState}
-use Rattle.wire.proofs.BoundLaws.{sparse-data-within, sparse-precision-small, read-number}
+use Rattle.wire.proofs.BoundLaws.{sparse-precision-small}
 use Rattle.lists.proofs.DecodingLaws.{accepted, decode-number}
 use Rattle.rollup.specs.declared.accumulator.Accumulator.{Accumulator}
 use Rattle.rollup.specs.declared.adding.Added.{Added}
 use Rattle.rollup.specs.Accumulator.{Mem, fits, fresh}
-use Rattle.rollup.specs.Header.{listOf, headerAnswer}
-use Rattle.rollup.specs.Adding.{Outcome, refuse, accept, acceptedAfter, masksMeet, carried, judgeState, judge, hasRoom, listedIn, addOutcome, Ready, Shows, AddPost}
+use Rattle.rollup.specs.Header.{dataOf, listOf}
+use Rattle.rollup.specs.Adding.{Outcome, refuse, accept, acceptedAfter, judge, hasRoom, listedIn, addOutcome, stateNumbers, Shows, AddPost}
 use Rattle.rollup.specs.Calls.{Call, Steps, begun, adding, writing, moving, Run, valueOr, stateIn, valuesIn}
 use Rattle.rollup.specs.Taking.{unchanged}
 use Rattle.rollup.proofs.FitLaws.{fit-none-back}
-use Rattle.rollup.proofs.JudgeLaws.{judged-same}
+use Rattle.rollup.proofs.JudgeLaws.{JudgedRead, judge-got, judge-number, list-short}
 use Rattle.rollup.proofs.AddLaws.{add-judged, add-full, add-listed, add-accepted}
-use Rattle.rollup.proofs.KeepsLaws.{accepted-keeps, refused-keeps, write-keeps}
-
--- ---- questions 2 to 16
-
--- What a state that passed them was.
-record JudgedRead (a : Accumulator) (bytes : List ℕ) (st : State) : Type 0 where
-  short : length bytes ≤ 2147483647
-  rest : List ℕ
-  read : readState bytes ≡ got st rest
-  judged : judgeState a st ≡ got st []
-
-judge-got : (a : Accumulator) (bytes : List ℕ) (st : State) (rest : List ℕ) → judge a bytes ≡ got st rest → JudgedRead a bytes st
-unfolding judge
-judge-got a bytes st rest = by-length (leb (length bytes) 2147483647) refl
-  where
-    by-read : length bytes ≤ 2147483647 → (x : Read State) → readState bytes ≡ x → andThen x (λ st nothing. judgeState a st) ≡ got st rest → JudgedRead a bytes st
-    by-read l (refused n) f e = absurd (let z : _≡_ {A = ℕ} 0 1 = cc in omega arith)
-    by-read l (got read more) f e =
-        let same = judged-same a read st rest e in
-        record {
-          short = l;
-          rest = more;
-          read = f ∙ ap (λ (x : State). got x more) (same .0);
-          judged = subst (λ (x : State). judgeState a x ≡ got x []) (same .0) (same .1);
-        }
-
-    by-length : (b : Bool) → leb (length bytes) 2147483647 ≡ b
-        → cond b (andThen (readState bytes) (λ st nothing. judgeState a st)) (refused 2) ≡ got st rest → JudgedRead a bytes st
-    by-length true l e = by-read (leb-true (length bytes) 2147483647 l) (readState bytes) refl e
-    by-length false l e = absurd (let z : _≡_ {A = ℕ} 0 1 = cc in omega arith)
-
--- And one that did not has a number above 0.
-judge-number : (a : Accumulator) (bytes : List ℕ) (n : ℕ) → judge a bytes ≡ refused n → 0 < n
-unfolding judge judgeState
-judge-number a bytes n = by-length (leb (length bytes) 2147483647)
-  where
-    by-state : (st : State) (h m c : Bool) → eqb (headerAnswer st) 0 ≡ h
-        → cond h (cond m (cond c (got st []) (refused 16)) (refused 15)) (refused (headerAnswer st)) ≡ refused n → 0 < n
-    by-state st true true true f e = absurd (let z : _≡_ {A = ℕ} 0 1 = cc in omega arith)
-    by-state st true true false f e = let z : 16 ≡ n = cc in omega arith
-    by-state st true false c f e = let z : 15 ≡ n = cc in omega arith
-    by-state st false m c f e = let z : headerAnswer st ≡ n = cc in let k = pos-of-ne-zero (eqb-false (headerAnswer st) 0 f) in omega arith
-
-    by-read : (x : Read State) → readState bytes ≡ x → andThen x (λ st nothing. judgeState a st) ≡ refused n → 0 < n
-    by-read (refused k) f e = let z : k ≡ n = cc in let p = read-number bytes k f in omega arith
-    by-read (got st more) f e = by-state st (eqb (headerAnswer st) 0) (masksMeet a st) (carried a st) refl e
-
-    by-length : (b : Bool) → cond b (andThen (readState bytes) (λ st nothing. judgeState a st)) (refused 2) ≡ refused n → 0 < n
-    by-length true e = by-read (readState bytes) refl e
-    by-length false e = let z : 2 ≡ n = cc in omega arith
+use Rattle.rollup.proofs.TakeLaws.{Ready, ready-takes}
+use Rattle.rollup.proofs.KeepsLaws.{taken-keeps, refused-keeps, write-keeps}
 
 -- ---- the view
 
@@ -124,13 +72,13 @@ module _ (a : Accumulator) (m : Mem) (room : ℕ) (bytes : List ℕ) (r : Added)
       by-list st rest f j h (got vs end) e =
           let whole : listedIn st ≡ got vs [] =
           e ∙ ap (got vs) (accepted (st .hll .precision) (st .hll .sparsePrecision) (listOf st) e .end) in
-          with-state st vs (ap (valueOr emptyState) (j .read)) (ap (valueOr []) whole)
+          with-state st vs (ap (valueOr emptyState) (j .header .read)) (ap (valueOr []) whole)
           (record {
             fit = fit;
             judged = j .judged;
             space = h;
             listed = whole;
-            short = omega (arith, sparse-data-within bytes st (j .rest) (j .read), j .short);
+            short = list-short a bytes st j;
           }) (add-accepted a m room bytes st rest fit f vs end h e)
 
       by-room : (st : State) (rest : List ℕ) → judge a bytes ≡ got st rest → (b : Bool) → hasRoom a m room st ≡ b → View
@@ -145,7 +93,9 @@ module _ (a : Accumulator) (m : Mem) (room : ℕ) (bytes : List ℕ) (r : Added)
   pub add-keeps : fits (r .head) n ≡ true
   add-keeps =
       ⊎-elim (λ (x : IsRefused a m r n). refused-keeps a m fit 0 (r .head) n (x .same))
-      (λ (x : IsAccepted a m room bytes r n). accepted-keeps a m room (stateIn bytes) (valuesIn (stateIn bytes)) (x .ready) (r .head) n (x .shows)) add-view
+      (λ (x : IsAccepted a m room bytes r n).
+      let st = stateIn bytes in
+      taken-keeps a m room (stateNumbers st (valuesIn st)) (dataOf st) (valuesIn st) (ready-takes (x .ready)) (r .head) n (x .shows)) add-view
 
 -- ---- lists of calls
 

@@ -40,8 +40,8 @@ use Rattle.rollup.specs.Accumulator.{Mem, mem, keptOf, waitingOf, limit,
 use Rattle.rollup.specs.Adding.{isStarted}
 use Rattle.rollup.specs.Writing.{flushed, currentSize, stateWith, stateForm, belowLimit, unless, writeOutcome, WritePost}
 use Rattle.rollup.specs.WritingPaths.{Writes, writtenFields, listOutcome, ValuesPre, FlushPre, FlushPost}
-use Rattle.rollup.proofs.FitLaws.{FitSparse, fit-sparse, fit-dense, whole-sparse, limit-small}
-use Rattle.rollup.proofs.SparseLaws.{at-pair, of-pair, counts-short, sorted-front, sorted-merge, sorted-post}
+use Rattle.rollup.proofs.FitLaws.{FitSparse, fits-form, fit-sparse, fit-dense, limit-small, counts-short}
+use Rattle.rollup.proofs.SparseLaws.{at-pair, of-pair, sorted-front, sorted-merge, sorted-post}
 
 -- ---- a question that is answered with yes, and one with no
 
@@ -315,14 +315,14 @@ module _ (a : Accumulator) (registers sparse pending : List ℕ) (room : ℕ) (o
 pub only-lists : (a : Accumulator) (registers sparse pending : List ℕ) → a .form ≡ Sparse → fits a (mem registers sparse pending) ≡ true
     → fits a (mem [] sparse pending) ≡ true
 only-lists a registers sparse pending form fit =
-    sym (whole-sparse a (mem [] sparse pending) form) ∙ whole-sparse a (mem registers sparse pending) form ∙ fit
+    fits-form a (mem [] sparse pending) Sparse form ∙ sym (fits-form a (mem registers sparse pending) Sparse form) ∙ fit
 
 module _ (a : Accumulator) (sparse pending : List ℕ) (form : a .form ≡ Sparse) (fit : fits a (mem [] sparse pending) ≡ true) where
   pub list-fit : FitSparse a (mem [] sparse pending)
   list-fit = fit-sparse a (mem [] sparse pending) fit form
 
   any-registers : (registers : List ℕ) → fits a (mem registers sparse pending) ≡ true
-  any-registers registers = sym (whole-sparse a (mem registers sparse pending) form) ∙ whole-sparse a (mem [] sparse pending) form ∙ fit
+  any-registers registers = fits-form a (mem registers sparse pending) Sparse form ∙ sym (fits-form a (mem [] sparse pending) Sparse form) ∙ fit
 
   pub list-short : a .«sparse_len» + a .«pending_len» ≤ 2147483647
   list-short = counts-short list-fit

@@ -34,6 +34,12 @@ waitingOf a m = take (a .«pending_len») (m .pending)
 abbrev pub limit : ℕ → ℕ
 limit p = 3 * 2 ^ (p - 2)
 
+-- "Waiting at most 2048": MAX_PENDING in the Rust.
+abbrev pub maxPending : ℕ
+maxPending = 2048
+
+-- ---- question 1: "Does the head fit?"
+
 -- "p in 4..24"; "s in p..25".
 abbrev pub normalRange : ℕ → Bool
 normalRange p = leb 4 p && leb p 24
@@ -41,38 +47,59 @@ normalRange p = leb 4 p && leb p 24
 abbrev pub sparseRange : ℕ → ℕ → Bool
 sparseRange p s = leb p s && leb s 25
 
+-- "Started: p in 4..24 .. Sparse: s in p..25", which is "s not 0", too.
+abbrev pub rangesFit : ℕ → ℕ → Bool
+rangesFit p s = normalRange p && sparseRange p s
+
 -- "Unstarted or dense: both counts 0."
 abbrev pub noLists : Accumulator → Bool
 noLists a = eqb (a .«sparse_len») 0 && eqb (a .«pending_len») 0
 
--- "Sparse: s in p..25, both lists valid, kept not descending, waiting at most 2048, kept bytes from the written length to 2,147,483,647, and,
--- with values waiting, kept bytes + 5 × waiting < L. The two counts fit their own lists."
-unfoldable pub sparseFits : Accumulator → Mem → Bool
-sparseFits a m =
-    (leb (a .«sparse_len») (length (m .sparse)) && leb (a .«pending_len») (length (m .pending)))
-    && sparseRange (a .precision) (a .«sparse_precision»)
-    && (allValid (a .precision) (a .«sparse_precision») (keptOf a m) && allValid (a .precision) (a .«sparse_precision») (waitingOf a m))
-    && ascends (keptOf a m)
-    && leb (a .«pending_len») 2048
-    && (leb (written (keptOf a m)) (a .«sparse_bytes») && leb (a .«sparse_bytes») 2147483647)
-    && (eqb (a .«pending_len») 0 || ltb (a .«sparse_bytes» + 5 * a .«pending_len») (limit (a .precision)))
+-- "With values waiting, kept bytes + 5 × waiting < L."
+abbrev pub waitingFits : Accumulator → Bool
+waitingFits a = eqb (a .«pending_len») 0 || ltb (a .«sparse_bytes» + 5 * a .«pending_len») (limit (a .precision))
 
--- "Dense: no register above 88−p", and "if dense, 2^p the registers".
-unfoldable pub denseFits : Accumulator → Mem → Bool
-denseFits a m =
-    noLists a
-    && leb (registerBytes (a .precision)) (length (m .registers))
-    && leb (largest (registersOf (a .precision) (m .registers))) (88 - a .precision)
+-- "The two counts fit their own lists", of so many cells; "waiting at most 2048, kept bytes .. to 2,147,483,647".
+unfoldable pub countsFit : Accumulator → ℕ → ℕ → Bool
+countsFit a cells waitingCells =
+    leb (a .«sparse_len») cells
+    && leb (a .«pending_len») waitingCells
+    && leb (a .«pending_len») maxPending
+    && leb (a .«sparse_bytes») 2147483647
+    && waitingFits a
+
+-- "Both lists valid, kept not descending .. kept bytes from the written length."
+unfoldable pub listsFit : Accumulator → List ℕ → List ℕ → Bool
+listsFit a kept waiting =
+    allValid (a .precision) (a .«sparse_precision») kept
+    && allValid (a .precision) (a .«sparse_precision») waiting
+    && ascends kept
+    && leb (written kept) (a .«sparse_bytes»)
+
+-- "The two counts fit their own lists and, if dense, 2^p the registers"; "no register above 88−p".
+abbrev pub registersFit : ℕ → List ℕ → Bool
+registersFit p registers = leb (registerBytes p) (length registers) && leb (largest (registersOf p registers)) (88 - p)
+
+-- Of the memory a list roll-up asks for the two lists alone, and a dense one for the registers.
+abbrev pub sparseFits : Accumulator → Mem → Bool
+sparseFits a m =
+    rangesFit (a .precision) (a .«sparse_precision»)
+    && countsFit a (length (m .sparse)) (length (m .pending))
+    && listsFit a (keptOf a m) (waitingOf a m)
 
 -- "Started: p in 4..24, s not 0."
+abbrev pub denseFits : Accumulator → Mem → Bool
+denseFits a m = normalRange (a .precision) && not (eqb (a .«sparse_precision») 0) && noLists a && registersFit (a .precision) (m .registers)
+
 abbrev pub fitsForm : Form → Accumulator → Mem → Bool
 fitsForm Unstarted a m = noLists a
-fitsForm Sparse a m = normalRange (a .precision) && sparseFits a m
-fitsForm Dense a m = normalRange (a .precision) && not (eqb (a .«sparse_precision») 0) && denseFits a m
+fitsForm Sparse a m = sparseFits a m
+fitsForm Dense a m = denseFits a m
 
--- Question 1: "Does the head fit?"
 unfoldable pub fits : Accumulator → Mem → Bool
 fits a m = fitsForm (a .form) a m
+
+-- ---- what a head tells
 
 -- "A fresh head is unstarted with every number 0."
 abbrev pub fresh : Accumulator

@@ -7,7 +7,7 @@ use Prim.Native.Nat.{ℕ, _+_, _*_}
 use lib.Dec.{leb, eqb}
 use lib.ListN.{length}
 use Rattle.wire.specs.Reading.{Read, got, refused, andThen}
-use Rattle.wire.specs.State.{State, readState}
+use Rattle.wire.specs.State.{State}
 use Rattle.lists.specs.Lists.{decodeOf}
 use Rattle.lists.specs.Registers.{registerBytes}
 use Rattle.rollup.specs.declared.accumulator.Form.{Form}
@@ -15,8 +15,8 @@ use Rattle.rollup.specs.declared.accumulator.Form.the-variants.{Unstarte
 use Rattle.rollup.specs.declared.accumulator.Accumulator.{Accumulator}
 use Rattle.rollup.specs.declared.incoming.Incoming.{Incoming}
 use Rattle.rollup.specs.declared.adding.Added.{Added}
-use Rattle.rollup.specs.Accumulator.{Mem, keptOf, waitingOf, fits}
-use Rattle.rollup.specs.Header.{dataOf, listOf, isEmpty, maskOf, headerAnswer}
+use Rattle.rollup.specs.Accumulator.{Mem, keptOf, waitingOf, maxPending, fits}
+use Rattle.rollup.specs.Header.{ask, first, dataOf, listOf, isEmpty, maskOf, headerAnswer, passing, readHeader}
 use Rattle.rollup.specs.Taking.{After, unchanged, commonMask, takenAfter}
 
 -- The answer, 0 for accepted, and what is left.
@@ -45,7 +45,7 @@ numbersOf st bytes k =
       «sparse_size» = st .hll .sparseSize;
       «list_bytes» = bytes;
       growth = 5 * k;
-      most = 2048;
+      most = maxPending;
     }
 
 abbrev pub stateNumbers : State → List ℕ → Incoming
@@ -75,21 +75,24 @@ samePair Unstarted a st = true
 samePair Sparse a st = eqb (a .precision) (st .hll .precision) && eqb (a .«sparse_precision») (st .hll .sparsePrecision)
 samePair Dense a st = true
 
+abbrev pub hasBoth : State → Bool
+hasBoth st = not (isEmpty (dataOf st)) && hasField (st .hll .sparseData)
+
 -- "16: Is it carried: s not 0, no data bytes beside a sparse field (even empty), and, at a sparse roll-up, p and s equal?"
 abbrev pub carried : Accumulator → State → Bool
-carried a st =
-    not (eqb (st .hll .sparsePrecision) 0)
-    && not (not (isEmpty (dataOf st)) && hasField (st .hll .sparseData))
-    && samePair (a .form) a st
+carried a st = not (eqb (st .hll .sparsePrecision) 0) && not (hasBoth st) && samePair (a .form) a st
+
+-- Questions 15 and 16, of a state that passed those before: whether it matches the roll-up. 0 where both are yes.
+unfoldable pub matchAnswer : Accumulator → State → ℕ
+matchAnswer a st = ask (masksMeet a st) 15 (ask (carried a st) 16 0)
+
+-- Questions 2 to 16.
+unfoldable pub judge : Accumulator → List ℕ → Read State
+judge a bytes = andThen (readHeader bytes) (λ st nothing. passing (matchAnswer a st) st)
 
 -- Questions 7 to 16, of a state that was read.
-unfoldable pub judgeState : Accumulator → State → Read State
-judgeState a st =
-    cond (eqb (headerAnswer st) 0) (cond (masksMeet a st) (cond (carried a st) (got st []) (refused 16)) (refused 15)) (refused (headerAnswer st))
-
--- Questions 2 to 16. "2: Has the state at most 2,147,483,647 bytes?"
-unfoldable pub judge : Accumulator → List ℕ → Read State
-judge a bytes = cond (leb (length bytes) 2147483647) (andThen (readState bytes) (λ st nothing. judgeState a st)) (refused 2)
+abbrev pub judgeAnswer : Accumulator → State → ℕ
+judgeAnswer a st = first (headerAnswer st) (matchAnswer a st)
 
 -- "17: Has register memory 2^p bytes (the roll-up's p, the state's if unstarted), and, where the sparse field is not empty, each u32 list kept +
 -- waiting + that field's byte length?"
@@ -101,15 +104,17 @@ wantedPrecision Dense a p = a .precision
 abbrev pub wantedRegisters : Accumulator → State → ℕ
 wantedRegisters a st = registerBytes (wantedPrecision (a .form) a (st .hll .precision))
 
-abbrev pub wantedCells : Accumulator → State → ℕ
-wantedCells a st = cond (isEmpty (listOf st)) 0 (a .«sparse_len» + a .«pending_len» + length (listOf st))
+-- For a sparse field of n bytes.
+abbrev pub wantedCells : Accumulator → ℕ → ℕ
+wantedCells a n = cond (eqb n 0) 0 (a .«sparse_len» + a .«pending_len» + n)
 
 unfoldable pub hasRoom : Accumulator → Mem → ℕ → State → Bool
 hasRoom a m room st =
+    let cells = wantedCells a (length (listOf st)) in
     leb (wantedRegisters a st) (length (m .registers))
-    && leb (wantedCells a st) (length (m .sparse))
-    && leb (wantedCells a st) (length (m .pending))
-    && leb (wantedCells a st) room
+    && leb cells (length (m .sparse))
+    && leb cells (length (m .pending))
+    && leb cells room
 
 -- 18 to 20: the list of a state.
 abbrev pub listedIn : State → Read (List ℕ)

@@ -16,8 +16,8 @@ use Rattle.lists.specs.Lists.{allValid, encodeFrom, encodeList, writtenFrom, wr
 use Rattle.lists.specs.Registers.{largest}
 use Rattle.lists.specs.Examples.{listExamples, list-examples-hold}
 use Rattle.rollup.specs.declared.accumulator.Accumulator.{Accumulator}
-use Rattle.rollup.specs.Header.{headerAnswer}
-use Rattle.rollup.specs.Accumulator.{Mem, mem, sparseFits, fits}
+use Rattle.rollup.specs.Header.{kindAnswer, structureAnswer, headerAnswer}
+use Rattle.rollup.specs.Accumulator.{Mem, mem, countsFit, listsFit, fits}
 use Rattle.rollup.specs.Writing.{flushed, currentSize, stateForm, belowLimit, writeOutcome}
 use Rattle.rollup.specs.Taking.{listHead}
 
@@ -37,7 +37,7 @@ abbrev pub headerExamples : List Example
 headerExamples = record { number = 10; holds = eqb (headerAnswer (allAt 55)) 0 && eqb (headerAnswer (allAt 56)) 14 } ∷ []
 
 pub header-examples-hold : allHold headerExamples ≡ true
-unfolding headerAnswer largest
+unfolding headerAnswer structureAnswer kindAnswer largest
 header-examples-hold = refl
 
 -- A list roll-up at (4, 10) that keeps n values, 1, 2, 3 and so on, each of which takes a byte, and its memory.
@@ -74,7 +74,7 @@ writeExamples =
     ∷ []
 
 pub write-examples-hold : allHold writeExamples ≡ true
-unfolding writeOutcome fits sparseFits flushed currentSize stateForm belowLimit allValid valid mark marked ascends written writtenFrom encodeList encodeFrom encodeStep encodeOf outerNumbers hllBytes hllNumbers bytesField lengthPrefix int32Unless numberField varintBytes
+unfolding writeOutcome fits countsFit listsFit flushed currentSize stateForm belowLimit allValid valid mark marked ascends written writtenFrom encodeList encodeFrom encodeStep encodeOf outerNumbers hllBytes hllNumbers bytesField lengthPrefix int32Unless numberField varintBytes
 write-examples-hold = refl
 
 -- ---- all of them

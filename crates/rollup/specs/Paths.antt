@@ -9,13 +9,14 @@ use Rattle.lists.specs.Lists.{allValid, distinctSlots}
 use Rattle.rollup.specs.declared.accumulator.Form.the-variants.{Sparse}
 use Rattle.rollup.specs.declared.accumulator.Accumulator.{Accumulator}
 use Rattle.rollup.specs.declared.incoming.Incoming.{Incoming}
+use Rattle.rollup.specs.Accumulator.{maxPending}
 
 -- The numbers of the waiting test are small enough to be added.
 pub record WaitPre (a : Accumulator) (x : Incoming) (k : ℕ) : Type 0 where
   pub low : 4 ≤ a .precision
   pub high : a .precision ≤ 24
   pub bytes : a .«sparse_bytes» ≤ 2147483647
-  pub few : a .«pending_len» ≤ 2048
+  pub few : a .«pending_len» ≤ maxPending
   pub growth : x .growth ≤ 5 * 2147483647
   pub incoming : k ≤ 2147483647
 

@@ -15,6 +15,7 @@ use Rattle.rollup.specs.declared.accumulator.Form.the-variants.{Unstarte
 use Rattle.rollup.specs.declared.accumulator.Accumulator.{Accumulator}
 use Rattle.rollup.specs.declared.writing.Written.{Written}
 use Rattle.rollup.specs.Accumulator.{Mem, keptOf, waitingOf, limit, fits}
+use Rattle.rollup.specs.Header.{stateType, stateVersion}
 use Rattle.rollup.specs.Adding.{isStarted, Shows, Free}
 use Rattle.rollup.specs.Taking.{unchanged}
 
@@ -29,13 +30,13 @@ unfoldable pub currentSize : Accumulator → Mem → ℕ
 currentSize a m =
     cond (eqb (a .«pending_len») 0) (a .«sparse_size») (distinctIndices (a .precision) (a .«sparse_precision») (keptOf a m ++ waitingOf a m))
 
--- A state of the head's numbers: type 112 and version 2, as questions 7 and 8 ask of a state.
+-- A state of the head's numbers, with the type and the version that questions 7 and 8 ask for.
 abbrev pub stateWith : Accumulator → ℕ → (dense sparse : Option (List ℕ)) → State
 stateWith a size dense sparse =
     record {
-      aggregatorType = 112;
+      aggregatorType = stateType;
       numValues = a .«num_values»;
-      encodingVersion = 2;
+      encodingVersion = stateVersion;
       valueType = a .«value_type»;
       hll =
           record {

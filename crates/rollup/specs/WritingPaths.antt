@@ -16,6 +16,7 @@ use Rattle.lists.specs.Lists.{allValid, written, encodeList, MergePost}
 use Rattle.rollup.specs.declared.accumulator.Accumulator.{Accumulator}
 use Rattle.rollup.specs.declared.writing.Written.{Written}
 use Rattle.rollup.specs.Accumulator.{limit}
+use Rattle.rollup.specs.Header.{stateType, stateVersion}
 use Rattle.rollup.specs.Writing.{stateWith, unless}
 
 -- What was to be written stands in front of what was there.
@@ -29,9 +30,9 @@ pub record Writes (x : Output) (out : List ℕ) (r : Written) (after : List ℕ)
 abbrev pub writtenFields : Accumulator → ℕ → Bool → ℕ → ℕ → Fields
 writtenFields a size dense dataLen sparseLen =
     record {
-      «aggregator_type» = 112;
+      «aggregator_type» = stateType;
       «num_values» = a .«num_values»;
-      «encoding_version» = 2;
+      «encoding_version» = stateVersion;
       «value_type» = a .«value_type»;
       hll =
           record {

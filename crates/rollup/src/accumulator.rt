@@ -6,6 +6,9 @@ ghost use mathlib.Core.Bool.{not};
 ghost use Rattle.rollup.specs.Accumulator.{fresh, countOf, precisionsOf};
 ghost use Rattle.rollup.specs.Adding.{isStarted};
 
+// How many values wait at most.
+pub(crate) const MAX_PENDING: usize = 2048;
+
 pub enum Form {
     Unstarted,
     Sparse,

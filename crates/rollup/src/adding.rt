@@ -11,6 +11,7 @@ ghost use Rattle.rollup.specs.Adding.{numbersOf, acceptedAfter, Shows, A
 ghost use Rattle.rollup.specs.Accepting.{AcceptPre, decodedRefusal, distinctAfter, Sound, AcceptPost, FittingPost};
 use crate::accumulator::Accumulator;
 use crate::accumulator::Form;
+use crate::accumulator::MAX_PENDING;
 use crate::fitting;
 use crate::header;
 use crate::incoming::Incoming;
@@ -63,7 +64,7 @@ fn state_numbers(f: Fields, list_bytes: usize, k: usize) -> Incoming
         sparse_size: h.sparse_size,
         list_bytes,
         growth: 5 * k,
-        most: 2048,
+        most: MAX_PENDING,
     }
 }
 

@@ -1,15 +1,13 @@
 // Question 1: whether a head fits the memory that is lent with it. Nothing of either is taken on trust, so no sum is made before
 // its parts are known to be small, and no part of a slice is taken before its count is known to lie inside.
 ghost use mathlib.Core.Path.{_≡_};
-ghost use mathlib.Core.Bool.{_&&_, not};
 ghost use mathlib.Core.List.{[]};
 ghost use Prim.Native.Nat.{_≤_};
-ghost use lib.Dec.{eqb};
 ghost use Rattle.lists.specs.Values.{Pair};
-ghost use Rattle.rollup.specs.Accumulator.{mem, limit, normalRange, noLists, sparseFits, denseFits, fits as headFits};
-ghost use Rattle.rollup.specs.Fitting.{rangesFit, waitingFits, countsFit, listsFit, registersFit};
+ghost use Rattle.rollup.specs.Accumulator.{mem, limit, maxPending, rangesFit, noLists, waitingFits, countsFit, listsFit, registersFit, sparseFits, denseFits, fits as headFits};
 use crate::accumulator::Accumulator;
 use crate::accumulator::Form;
+use crate::accumulator::MAX_PENDING;
 use crate::header;
 use lists::checking;
 use lists::merging;
@@ -48,7 +46,7 @@ pub(crate) fn size_limit(p: u32) -> usize
 
 // Whether the values that wait leave the list below the limit.
 fn waiting_fits(a: Accumulator) -> bool
-    requires { ⌜ (4 ≤ a .precision) × (a .precision ≤ 24) × (a .«pending_len» ≤ 2048) × (a .«sparse_bytes» ≤ 2147483647) ⌝ }
+    requires { ⌜ (4 ≤ a .precision) × (a .precision ≤ 24) × (a .«pending_len» ≤ maxPending) × (a .«sparse_bytes» ≤ 2147483647) ⌝ }
     ensures { λ r. ⌜ r ≡ waitingFits a ⌝ }
 {
     if a.pending_len == 0 {
@@ -68,7 +66,7 @@ fn counts_fit(a: Accumulator, cells: usize, waiting_cells: usize) -> bool
     if a.pending_len > waiting_cells {
         return false;
     }
-    if a.pending_len > 2048 {
+    if a.pending_len > MAX_PENDING {
         return false;
     }
     if a.sparse_bytes > 2147483647 {
@@ -97,7 +95,7 @@ fn lists_fit(a: Accumulator, kept: &[u32], waiting: &[u32]) -> bool
 
 // Whether a list roll-up fits. Of the memory only the two lists count.
 fn sparse_fits(a: Accumulator, sparse: &[u32], pending: &[u32]) -> bool
-    ensures { λ r. ⌜ r ≡ normalRange (a .precision) && sparseFits a (mem [] (now (sparse .entry)) (now (pending .entry))) ⌝ }
+    ensures { λ r. ⌜ r ≡ sparseFits a (mem [] (now (sparse .entry)) (now (pending .entry))) ⌝ }
 {
     if !ranges_fit(a.precision, a.sparse_precision) {
         return false;
@@ -122,7 +120,7 @@ fn registers_fit(p: u32, registers: &[u8]) -> bool
 
 // Whether a dense roll-up fits. Of the memory only the registers count.
 fn dense_fits(a: Accumulator, registers: &[u8]) -> bool
-    ensures { λ r. ⌜ r ≡ normalRange (a .precision) && not (eqb (a .«sparse_precision») 0) && denseFits a (mem (now (registers .entry)) [] []) ⌝ }
+    ensures { λ r. ⌜ r ≡ denseFits a (mem (now (registers .entry)) [] []) ⌝ }
 {
     if !header::check_normal_precision(a.precision) {
         return false;

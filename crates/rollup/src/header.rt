@@ -4,22 +4,18 @@
 // too large.
 ghost use mathlib.Core.Path.{_≡_};
 ghost use mathlib.Core.List.{List};
-ghost use mathlib.Core.Bool.{_||_, not};
-ghost use Prim.Native.Nat.{ℕ, _-_, _^_, _≤_};
-ghost use lib.Dec.{leb, eqb};
-ghost use lib.ListN.{length};
+ghost use mathlib.Core.Bool.{not};
+ghost use Prim.Native.Nat.{ℕ, _≤_};
 ghost use Rattle.wire.specs.State.{stateOf};
-ghost use Rattle.lists.specs.Registers.{largest};
 ghost use Rattle.rollup.specs.Accumulator.{normalRange, sparseRange};
-ghost use Rattle.rollup.specs.Header.{dataOf, listOf, isEmpty, isValueType, maskOf, headerAnswer};
-ghost use Rattle.rollup.specs.Judging.{kindAsked, needsPair, structureAsked};
+ghost use Rattle.rollup.specs.Header.{dataOf, listOf, isEmpty, isValueType, maskOf, kindAnswer, listHasPrecision, dataHasLength, needsPair, structureAnswer, registersInRange, headerAnswer};
 use lists::registers;
 use wire::state;
 use wire::state::Fields;
 
-const HYPERLOGLOG_PLUS_UNIQUE: u32 = 112;
+pub(crate) const HYPERLOGLOG_PLUS_UNIQUE: u32 = 112;
 
-const ENCODING_VERSION: u32 = 2;
+pub(crate) const ENCODING_VERSION: u32 = 2;
 
 const VALUE_TYPE_UNKNOWN: u32 = 0;
 
@@ -100,7 +96,7 @@ pub fn has_sparse_data(bytes: &[u8], f: Fields) -> bool
 
 // 7 to 9.
 fn validate_kind(f: Fields) -> u8
-    ensures { λ r. ⌜ ((s : List ℕ) → r ≡ kindAsked (stateOf s f) 0) ⌝ }
+    ensures { λ r. ⌜ ((s : List ℕ) → r ≡ kindAnswer (stateOf s f)) ⌝ }
 {
     if f.aggregator_type != HYPERLOGLOG_PLUS_UNIQUE {
         return 7;
@@ -116,7 +112,7 @@ fn validate_kind(f: Fields) -> u8
 
 // 10: a list has an s.
 fn list_has_precision(bytes: &[u8], f: Fields) -> bool
-    ensures { λ r. ⌜ r ≡ isEmpty (listOf (stateOf (now (bytes .entry)) f)) || not (eqb (f .hll .«sparse_precision») 0) ⌝ }
+    ensures { λ r. ⌜ r ≡ listHasPrecision (stateOf (now (bytes .entry)) f) ⌝ }
 {
     if !has_sparse_data(bytes, f) {
         return true;
@@ -128,7 +124,7 @@ fn list_has_precision(bytes: &[u8], f: Fields) -> bool
 // 12: data of 2^p bytes, if any.
 fn data_has_length(bytes: &[u8], f: Fields) -> bool
     requires { ⌜ f .hll .precision ≤ 24 ⌝ }
-    ensures { λ r. ⌜ r ≡ isEmpty (dataOf (stateOf (now (bytes .entry)) f)) || eqb (length (dataOf (stateOf (now (bytes .entry)) f))) (2 ^ f .hll .precision) ⌝ }
+    ensures { λ r. ⌜ r ≡ dataHasLength (stateOf (now (bytes .entry)) f) ⌝ }
 {
     let h = f.hll;
     let d = state::data(bytes, f);
@@ -155,7 +151,7 @@ fn needs_pair(bytes: &[u8], f: Fields) -> bool
 
 // 7 to 13: all but a look at the registers.
 pub fn validate_structure(bytes: &[u8], f: Fields) -> u8
-    ensures { λ r. ⌜ r ≡ structureAsked (stateOf (now (bytes .entry)) f) 0 ⌝ }
+    ensures { λ r. ⌜ r ≡ structureAnswer (stateOf (now (bytes .entry)) f) ⌝ }
 {
     let h = f.hll;
     let kind = validate_kind(f);
@@ -182,8 +178,8 @@ pub fn validate_structure(bytes: &[u8], f: Fields) -> u8
 
 // 14: no register above 65 - p.
 fn registers_in_range(bytes: &[u8], f: Fields) -> bool
-    requires { ⌜ structureAsked (stateOf (now bytes) f) 0 ≡ 0 ⌝ }
-    ensures { λ r. ⌜ r ≡ leb (largest (dataOf (stateOf (now (bytes .entry)) f))) (65 - f .hll .precision) ⌝ }
+    requires { ⌜ structureAnswer (stateOf (now bytes) f) ≡ 0 ⌝ }
+    ensures { λ r. ⌜ r ≡ registersInRange (stateOf (now (bytes .entry)) f) ⌝ }
 {
     let h = f.hll;
     let d = state::data(bytes, f);

@@ -1,19 +1,16 @@
-// Judging a state before anything is written: questions 2 to 16 (`judge`), 17 (`has_room`) and 18 to 20 (`decode_listed`). Ported from the first
-// part of `Accumulator::add_view` and from `start` and `merge_sparse` in src/accumulator.rs of zetasketch-rs at commit 9abe68bf87 (Apache-2.0,
-// see NOTICE). Changed: every question stands in front of the first store, document 01's numbers are in the place of `Result` and strings,
-// and a list is read into a lent slice.
+// Judging a state before anything is written: questions 2 to 14, of the bytes alone (`read_header`), 2 to 16 (`judge`), 17 (`has_room`) and 18 to 20
+// (`decode_listed`). Ported from the first part of `Accumulator::add_view` and from `start` and `merge_sparse` in src/accumulator.rs of zetasketch-rs
+// at commit 9abe68bf87 (Apache-2.0, see NOTICE). Changed: every question stands in front of the first store, document 01's numbers are in the
+// place of `Result` and strings, and a list is read into a lent slice.
 ghost use mathlib.Core.Path.{_≡_};
 ghost use mathlib.Core.List.{List};
-ghost use mathlib.Core.Bool.{_&&_, not};
-ghost use Prim.Native.Nat.{ℕ, _+_, min};
-ghost use lib.Dec.{leb};
+ghost use Prim.Native.Nat.{ℕ, _+_, _^_, _<_, _≤_};
 ghost use lib.ListN.{length};
-ghost use Rattle.wire.specs.State.{stateOf, HllInside};
+ghost use Rattle.wire.specs.State.{stateOf};
 ghost use Rattle.lists.specs.Lists.{Decodes};
 ghost use Rattle.rollup.specs.Accumulator.{mem};
-ghost use Rattle.rollup.specs.Header.{dataOf, isEmpty};
-ghost use Rattle.rollup.specs.Adding.{isStarted, masksMeet, hasField, samePair, carried, judgeState, wantedPrecision, hasRoom, listedIn};
-ghost use Rattle.rollup.specs.Judging.{judgedMeans, JudgedInside, JudgePost, judgedRefusal, parsedRefusal, RoomPre, ListedPre};
+ghost use Rattle.rollup.specs.Adding.{masksMeet, hasBoth, samePair, carried, matchAnswer, wantedPrecision, wantedRegisters, wantedCells, hasRoom, listedIn};
+ghost use Rattle.rollup.specs.Judging.{HeaderPost, JudgePost, judgedRefusal, parsedRefusal, RoomPre, ListedPre};
 use crate::accumulator::Accumulator;
 use crate::accumulator::Form;
 use crate::header;
@@ -25,7 +22,7 @@ use wire::state;
 use wire::state::Fields;
 use wire::state::Parsed;
 
-// A state that was accepted up to question 16, or document 01's number of the refusal.
+// A state that was accepted up to question 14, or 16, or document 01's number of the refusal.
 pub enum Judged {
     State(Fields),
     Refused(u8),
@@ -50,22 +47,29 @@ fn parsed_refusal(r: Parsed) -> u8
     }
 }
 
-fn is_started(a: Accumulator) -> bool
-    ensures { λ r. ⌜ r ≡ isStarted (a .form) ⌝ }
+// 2 to 14: what is asked of the bytes alone.
+pub fn read_header(bytes: &[u8]) -> Judged
+    ensures { λ r. ⌜ HeaderPost (now (bytes .entry)) r ⌝ }
 {
-    let form = a.form;
-    match form {
-        Form::Unstarted => false,
-        Form::Sparse => true,
-        Form::Dense => true,
+    if 2147483647 < bytes.len() {
+        return Judged::Refused(2);
     }
+    let r = state::parse(bytes);
+    let Parsed::Read(f) = r else {
+        return Judged::Refused(parsed_refusal(r));
+    };
+    let n = header::validate_header(bytes, f);
+    if n != 0 {
+        return Judged::Refused(n);
+    }
+    Judged::State(f)
 }
 
 // 15: the masks meet, if there are two.
 fn masks_meet(a: Accumulator, f: Fields) -> bool
     ensures { λ r. ⌜ ((s : List ℕ) → r ≡ masksMeet a (stateOf s f)) ⌝ }
 {
-    if !is_started(a) {
+    if a.is_empty() {
         return true;
     }
     a.allowed & header::allowed_types(f.value_type) != 0
@@ -73,7 +77,7 @@ fn masks_meet(a: Accumulator, f: Fields) -> bool
 
 // 16: data bytes beside a sparse field, even an empty one.
 fn has_both(bytes: &[u8], f: Fields) -> bool
-    ensures { λ r. ⌜ r ≡ not (isEmpty (dataOf (stateOf (now (bytes .entry)) f))) && hasField (stateOf (now (bytes .entry)) f .hll .sparseData) ⌝ }
+    ensures { λ r. ⌜ r ≡ hasBoth (stateOf (now (bytes .entry)) f) ⌝ }
 {
     if !header::has_data(bytes, f) {
         return false;
@@ -114,41 +118,37 @@ fn is_carried(a: Accumulator, bytes: &[u8], f: Fields) -> bool
     same_pair(a, f)
 }
 
-// 7 to 16.
-fn judge_fields(a: Accumulator, bytes: &[u8], f: Fields) -> Judged
-    requires { ⌜ HllInside (now bytes) (f .hll) ⌝ }
-    ensures { λ r. ⌜ (judgedMeans (now (bytes .entry)) r ≡ judgeState a (stateOf (now (bytes .entry)) f)) × JudgedInside (now (bytes .entry)) r ⌝ }
+// 15 and 16: document 01's number of the first whose answer is no, or 0.
+fn validate_match(a: Accumulator, bytes: &[u8], f: Fields) -> u8
+    ensures { λ r. ⌜ r ≡ matchAnswer a (stateOf (now (bytes .entry)) f) ⌝ }
 {
-    let n = header::validate_header(bytes, f);
-    if n != 0 {
-        return Judged::Refused(n);
-    }
     if !masks_meet(a, f) {
-        return Judged::Refused(15);
+        return 15;
     }
     if !is_carried(a, bytes, f) {
-        return Judged::Refused(16);
+        return 16;
     }
-    Judged::State(f)
+    0
 }
 
 // 2 to 16.
 pub fn judge(a: Accumulator, bytes: &[u8]) -> Judged
     ensures { λ r. ⌜ JudgePost a (now (bytes .entry)) r ⌝ }
 {
-    if 2147483647 < bytes.len() {
-        return Judged::Refused(2);
-    }
-    let r = state::parse(bytes);
-    let Parsed::Read(f) = r else {
-        return Judged::Refused(parsed_refusal(r));
+    let r = read_header(bytes);
+    let Judged::State(f) = r else {
+        return r;
     };
-    judge_fields(a, bytes, f)
+    let n = validate_match(a, bytes, f);
+    if n != 0 {
+        return Judged::Refused(n);
+    }
+    r
 }
 
 // The precision whose registers 17 asks for.
 fn wanted_precision(a: Accumulator, f: Fields) -> u32
-    ensures { λ r. ⌜ r ≡ wantedPrecision (a .form) a (f .hll .precision) ⌝ }
+    ensures { λ r. ⌜ ((s : List ℕ) → r ≡ wantedPrecision (a .form) a (stateOf s f .hll .precision)) ⌝ }
 {
     let h = f.hll;
     let form = a.form;
@@ -159,25 +159,23 @@ fn wanted_precision(a: Accumulator, f: Fields) -> u32
     }
 }
 
-// Whether a list takes kept, waiting and new values. The sum is never made, so that it cannot wrap.
-fn takes(cells: usize, kept: usize, waiting: usize, new: usize) -> bool
-    ensures { λ r. ⌜ r ≡ leb (kept + waiting + new) cells ⌝ }
+// 17: how many register bytes are wanted.
+pub fn wanted_registers(a: Accumulator, f: Fields) -> usize
+    requires { ⌜ ((s : List ℕ) → wantedPrecision (a .form) a (stateOf s f) ≤ 24) ⌝ }
+    ensures { λ r. ⌜ ((s : List ℕ) → r ≡ wantedRegisters a (stateOf s f)) ⌝ }
 {
-    if cells < kept {
-        return false;
-    }
-    let after_kept = cells - kept;
-    if after_kept < waiting {
-        return false;
-    }
-    new <= after_kept - waiting
+    registers::register_bytes(wanted_precision(a, f))
 }
 
-// The smaller of two lengths.
-fn least(x: usize, y: usize) -> usize
-    ensures { λ r. ⌜ r ≡ min x y ⌝ }
+// 17: how many cells of each list are wanted, for a sparse field of n bytes.
+pub fn wanted_cells(a: Accumulator, n: usize) -> usize
+    requires { ⌜ a .«sparse_len» + a .«pending_len» + n < 2 ^ 64 ⌝ }
+    ensures { λ r. ⌜ r ≡ wantedCells a n ⌝ }
 {
-    if x < y { x } else { y }
+    if n == 0 {
+        return 0;
+    }
+    a.sparse_len + a.pending_len + n
 }
 
 // 17. `bytes` are those that `f` was read from.
@@ -193,16 +191,18 @@ pub(crate) fn has_room(
     requires { ⌜ RoomPre a (mem (now registers) (now sparse) (now pending)) (stateOf (now bytes) f) ⌝ }
     ensures { λ r. ⌜ r ≡ hasRoom a (mem (now (registers .entry)) (now (sparse .entry)) (now (pending .entry))) (length (now (scratch .entry))) (stateOf (now (bytes .entry)) f) ⌝ }
 {
-    if registers.len() < registers::register_bytes(wanted_precision(a, f)) {
+    if registers.len() < wanted_registers(a, f) {
         return false;
     }
     let d = state::sparse_data(bytes, f);
-    let n = d.len();
-    if n == 0 {
-        return true;
+    let cells = wanted_cells(a, d.len());
+    if sparse.len() < cells {
+        return false;
     }
-    let cells = least(least(sparse.len(), pending.len()), scratch.len());
-    takes(cells, a.sparse_len, a.pending_len, n)
+    if pending.len() < cells {
+        return false;
+    }
+    cells <= scratch.len()
 }
 
 // 18 to 20: the list's values, into `scratch`. A state without list bytes has no values, and its s may be one that no list can have.

@@ -17,6 +17,8 @@ ghost use Rattle.rollup.specs.WritingPaths.{Writes, writtenFields, listO
 use crate::accumulator::Accumulator;
 use crate::accumulator::Form;
 use crate::fitting;
+use crate::header::ENCODING_VERSION;
+use crate::header::HYPERLOGLOG_PLUS_UNIQUE;
 use lists::indices;
 use lists::merging;
 use lists::merging::Merged;
@@ -34,10 +36,6 @@ pub struct Written {
     pub answer: u8,
     pub len: usize,
 }
-
-const HYPERLOGLOG_PLUS_UNIQUE: u32 = 112;
-
-const ENCODING_VERSION: u32 = 2;
 
 // The fields of a state of the head's numbers, with registers or with a list.
 fn view(a: Accumulator, size: u32, dense: bool, data_len: usize, sparse_len: usize) -> Fields

@@ -11,6 +11,12 @@ both-true true b e = (refl, e)
 both-true false true e = (e, refl)
 both-true false false e = (e, e)
 
+-- What follows from the other part adds nothing.
+pub absorbed : (a b : Bool) → (b ≡ true → a ≡ true) → (a && b) ≡ b
+absorbed true b f = refl
+absorbed false true f = f refl
+absorbed false false f = refl
+
 pub said-yes : {r b : Bool} → r ≡ b → not r ≡ false → b ≡ true
 said-yes {r} e f = sym e ∙ not-false r f
 

@@ -70,19 +70,19 @@ cond-strict false p q = q
 
 -- One reading after the other.
 module _ {A B : Type 0} (read : List ℕ → Read A) (next : A → List ℕ → Read B) where
-  abbrev both : List ℕ → Read B
-  both l = andThen (read l) next
+  abbrev chained : List ℕ → Read B
+  chained l = andThen (read l) next
 
-  takes-both : {a : A} {b : B} {v w : List ℕ} → Takes read a v → Takes (next a) b w → Takes both b (v ++ w)
+  takes-both : {a : A} {b : B} {v w : List ℕ} → Takes read a v → Takes (next a) b w → Takes chained b (v ++ w)
   takes-both {v = v} {w = w} f g =
       record {
-        whole = λ l. ap both (append-assoc v w l) ∙ then-same next (f .whole (w ++ l)) ∙ g .whole l;
+        whole = λ l. ap chained (append-assoc v w l) ∙ then-same next (f .whole (w ++ l)) ∙ g .whole l;
         cut = λ k (h : k < length (v ++ w)).
-            take-two k v w (λ (x : List ℕ). both x ≡ refused 3) (λ (i : k < length v). then-same next (f .cut k i))
+            take-two k v w (λ (x : List ℕ). chained x ≡ refused 3) (λ (i : k < length v). then-same next (f .cut k i))
             (λ (j : ℕ) (e : length v + j ≡ k). then-same next (f .whole (take j w)) ∙ g .cut j (omega (arith, length-append v w)));
       }
 
-  second : (l : List ℕ) (a : A) (rest : List ℕ) → Took read a l rest → (r : Read B) → Front (next a) rest r → Front both l r
+  second : (l : List ℕ) (a : A) (rest : List ℕ) → Took read a l rest → (r : Read B) → Front (next a) rest r → Front chained l r
   second l a rest f (got b more) g =
       record {
         front = f .front ++ g .front;
@@ -91,11 +91,11 @@ module _ {A B : Type 0} (read : List ℕ → Read A) (next : A → List ℕ → 
       }
   second l a rest f (refused n) g = tt
 
-  first : (l : List ℕ) → ((a : A) → Strict (next a)) → (r : Read A) → Front read l r → Front both l (andThen r next)
+  first : (l : List ℕ) → ((a : A) → Strict (next a)) → (r : Read A) → Front read l r → Front chained l (andThen r next)
   first l q (got a rest) f = second l a rest f (next a rest) (q a .took rest)
   first l q (refused n) f = tt
 
-  then-strict : Strict read → ((a : A) → Strict (next a)) → Strict both
+  then-strict : Strict read → ((a : A) → Strict (next a)) → Strict chained
   then-strict p q = record { took = λ l. first l q (read l) (p .took l) }
 
 -- ---- the readings of a state

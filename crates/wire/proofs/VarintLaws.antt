@@ -46,23 +46,58 @@ module _ (s : List ℕ) (at n : ℕ) where
   unfolding varintOf
   varint-more h l = rw (drop-cons s at 0, le-ltb _ _ l, add-one)
 
--- Payloads in front, of the value x, of what the rest reads as, which weighs p.
+-- Payloads in front, of the value x, of what the rest reads as, which weighs w.
 abbrev pub weighed : ℕ → ℕ → Read ℕ → Read ℕ
-weighed p x (got v l) = got (x + p * v) l
-weighed p x (refused n) = refused n
+weighed w x (got v l) = got (x + w * v) l
+weighed w x (refused n) = refused n
 
 weighed-none : (r : Read ℕ) → weighed 1 0 r ≡ r
 weighed-none (got v l) = ap (λ (x : ℕ). got x l) (omega arith)
 weighed-none (refused n) = refl
 
--- One payload more, at the weight p, where only the low 64 bits are kept.
-weighed-more : (p x y : ℕ) (r : Read ℕ) → lowBits 64 (weighed p x (payload y r)) ≡ lowBits 64 (weighed (p * 128) ((x + y * p) % 2 ^ 64) r)
-weighed-more p x y (got v l) =
+-- One payload more.
+weighed-more : (w x y : ℕ) (r : Read ℕ) → weighed w x (payload y r) ≡ weighed (w * 128) (x + y * w) r
+weighed-more w x y (got v l) =
     ap (λ (z : ℕ). got z l)
-    (ap (λ (z : ℕ). z % 2 ^ 64)
-    (let e : x + p * (y + 128 * v) ≡ (x + y * p) + p * 128 * v = omega (arith, mul-add p y (128 * v), mul-comm y p, mul-assoc p 128 v) in e)
-    ∙ sym (mod-add-mod (x + y * p) (2 ^ 64) (p * 128 * v)))
-weighed-more p x y (refused n) = refl
+    (let e : x + w * (y + 128 * v) ≡ x + y * w + w * 128 * v = omega (arith, mul-add w y (128 * v), mul-comm y w, mul-assoc w 128 v) in e)
+weighed-more w x y (refused n) = refl
+
+-- Where a reader of at most `width` bytes is: those before `at` have the value x, and what the rest reads as, in at most n bytes, weighs w.
+pub record Begun (width : ℕ) (s : List ℕ) (start at n w x : ℕ) : Type 0 where
+  pub on : start ≤ at
+  pub small : x < w
+  pub whole : varintOf width (drop start s) ≡ weighed w x (varintOf n (drop at s))
+
+pub begun-none : (width : ℕ) (s : List ℕ) (start : ℕ) → Begun width s start start width 1 0
+begun-none width s start = record { on = omega arith; small = omega arith; whole = sym (weighed-none (varintOf width (drop start s))) }
+
+pub begun-long : {width : ℕ} {s : List ℕ} {start at w x : ℕ} → Begun width s start at 0 w x → varintOf width (drop start s) ≡ refused 4
+begun-long {s = s} {at = at} {w = w} {x = x} g = g .whole ∙ ap (weighed w x) (varint-none (drop at s))
+
+module _ {width : ℕ} {s : List ℕ} {start at w x : ℕ} (n : ℕ) (g : Begun width s start at (suc n) w x) where
+  pub begun-end : length s ≤ at → varintOf width (drop start s) ≡ refused 3
+  begun-end h = g .whole ∙ ap (weighed w x) (varint-end s at n h)
+
+  -- b is the byte at `at`, as the reader has it
+  module _ {b : ℕ} (inside : at < length s) (e : b ≡ getD s at 0) where
+    pub begun-last : b < 128 → varintOf width (drop start s) ≡ got (x + b * w) (drop (at + 1) s)
+    begun-last l =
+        g .whole
+        ∙ ap (weighed w x) (varint-last s at n inside (subst (λ (y : ℕ). y < 128) e l))
+        ∙ ap (λ (y : ℕ). got (x + y) (drop (at + 1) s)) (mul-comm w (getD s at 0) ∙ ap (λ (y : ℕ). y * w) (sym e))
+
+    pub begun-more : {z : ℕ} → 128 ≤ b → z ≡ x + b % 128 * w → Begun width s start (at + 1) n (w * 128) z
+    begun-more {z} l f =
+        let d = digits-lt {q = b % 128} {m = 128} (mod-lt b (zero-lt-suc 127)) (g .small) in
+        record {
+          on = omega (arith, g .on);
+          small = omega (arith, d, mul-comm 128 w);
+          whole =
+              g .whole
+              ∙ ap (weighed w x) (varint-more s at n inside (subst (λ (y : ℕ). 128 ≤ y) e l))
+              ∙ weighed-more w x (getD s at 0 % 128) (varintOf n (drop (at + 1) s))
+              ∙ ap (λ (y : ℕ). weighed (w * 128) y (varintOf n (drop (at + 1) s))) (ap (λ (y : ℕ). x + y % 128 * w) (sym e) ∙ sym f);
+        }
 
 -- The weight of payload n + 1.
 pub weight-more : (n : ℕ) → 2 ^ (7 * (n + 1)) ≡ 2 ^ (7 * n) * 128
@@ -82,92 +117,80 @@ or-shl j k x y h =
 abbrev pub put : ℕ → ℕ → ℕ → ℕ
 put n acc b = bitOr acc ((bitAnd b 127 * 2 ^ (7 * n)) % 2 ^ 64)
 
--- It is the sum's low 64 bits.
-put-sum : (n acc b : ℕ) → n < 10 → acc < 2 ^ (7 * n) → put n acc b ≡ (acc + b % 128 * 2 ^ (7 * n)) % 2 ^ 64
-put-sum n acc b h l =
-    ap (λ (x : ℕ). bitOr acc ((x * 2 ^ (7 * n)) % 2 ^ 64)) (and-mask b 7)
+-- Of the low 64 bits of x it makes those of the sum.
+put-sum : (n x b : ℕ) → n < 10 → x < 2 ^ (7 * n) → put n (x % 2 ^ 64) b ≡ (x + b % 128 * 2 ^ (7 * n)) % 2 ^ 64
+put-sum n x b h l =
+    let acc = x % 2 ^ 64 in
+    ap (λ (y : ℕ). bitOr acc ((y * 2 ^ (7 * n)) % 2 ^ 64)) (and-mask b 7)
     ∙ subst (λ (w : ℕ). bitOr acc ((b % 128 * 2 ^ (7 * n)) % 2 ^ w) ≡ (acc + b % 128 * 2 ^ (7 * n)) % 2 ^ w)
-    (let e : (64 - 7 * n) + 7 * n ≡ 64 = omega arith in e) (or-shl (64 - 7 * n) (7 * n) acc (b % 128) l)
+    (let e : (64 - 7 * n) + 7 * n ≡ 64 = omega arith in e) (or-shl (64 - 7 * n) (7 * n) acc (b % 128) (lt-of-le-of-lt (mod-le x (2 ^ 64)) l))
+    ∙ mod-add-mod x (2 ^ 64) (b % 128 * 2 ^ (7 * n))
 
-sum-lt : (n acc b : ℕ) → acc < 2 ^ (7 * n) → (acc + b % 128 * 2 ^ (7 * n)) % 2 ^ 64 < 2 ^ (7 * (n + 1))
-sum-lt n acc b l =
-    let d = digits-lt {q = b % 128} {m = 128} (mod-lt b (zero-lt-suc 127)) l in
-    lt-of-le-of-lt (mod-le _ _) (omega (arith, d, weight-more n, mul-comm 128 (2 ^ (7 * n))))
-
--- Where the reader of a long varint is: n bytes were read, of the value acc, and the rest stands at `at`.
-pub record Reading (s : List ℕ) (start at n acc : ℕ) : Type 0 where
-  pub few : n ≤ 10
-  pub on : start ≤ at
-  pub small : acc < 2 ^ (7 * n)
-  pub whole : varint64 (drop start s) ≡ lowBits 64 (weighed (2 ^ (7 * n)) acc (varintOf (10 - n) (drop at s)))
-
-pub reading-none : (s : List ℕ) (start : ℕ) → Reading s start start 0 0
+-- A state's varint: the low 64 bits.
+low-is : (l : List ℕ) (r : Read ℕ) → varintOf 10 l ≡ r → lowBits 64 r ≡ varint64 l
 unfolding varint64
-reading-none s start =
-    record {
-      few = omega arith;
-      on = omega arith;
-      small = omega arith;
-      whole = ap (λ (r : Read ℕ). lowBits 64 r) (sym (weighed-none (varintOf 10 (drop start s))));
-    }
+low-is l r e = ap (λ (x : Read ℕ). lowBits 64 x) (sym e)
 
-module _ {s : List ℕ} {start at n acc : ℕ} (r : Reading s start at n acc) where
-  rest-is : (m : ℕ) (x : Read ℕ) → 10 - n ≡ m → varintOf m (drop at s) ≡ x → varint64 (drop start s) ≡ lowBits 64 (weighed (2 ^ (7 * n)) acc x)
-  rest-is m x e f =
-      r .whole
-      ∙ ap (λ (k : ℕ). lowBits 64 (weighed (2 ^ (7 * n)) acc (varintOf k (drop at s)))) e
-      ∙ ap (λ (z : Read ℕ). lowBits 64 (weighed (2 ^ (7 * n)) acc z)) f
+module _ {s : List ℕ} {start at w x : ℕ} (n : ℕ) (g : Begun 10 s start at (suc n) w x) where
+  cut-post : length s ≤ at → VarintPost s start Cut
+  cut-post h = record { answer = low-is (drop start s) (refused 3) (begun-end n g h); inside = tt }
 
-  pub reading-cut : n < 10 → length s ≤ at → VarintPost s start Cut
-  reading-cut h l = record { answer = sym (rest-is (suc (9 - n)) (refused 3) (omega arith) (varint-end s at (9 - n) l)); inside = tt }
-
-  pub reading-long : 10 ≤ n → VarintPost s start Long
-  unfolding varintOf
-  reading-long h = record { answer = sym (rest-is 0 (refused 4) (omega (arith, r .few)) refl); inside = tt }
-
-  -- b is the byte that was read
-  module _ {b : ℕ} (fewer : n < 10) (inside : at < length s) (e : b ≡ getD s at 0) where
-    last-is : b < 128 → varint64 (drop start s) ≡ got (put n acc b) (drop (at + 1) s)
-    last-is l =
-        rest-is (suc (9 - n)) (got (getD s at 0) (drop (at + 1) s)) (omega arith) (varint-last s at (9 - n) inside (subst (λ (x : ℕ). x < 128) e l))
-        ∙ ap (λ (x : ℕ). got x (drop (at + 1) s))
-        (ap (λ (x : ℕ). (acc + x) % 2 ^ 64)
-        (mul-comm (2 ^ (7 * n)) (getD s at 0)
-        ∙ ap (λ (x : ℕ). x * 2 ^ (7 * n)) (let f : getD s at 0 ≡ b % 128 = omega arith in f))
-        ∙ sym (put-sum n acc b fewer (r .small)))
-
-    pub reading-last : b < 128 → VarintPost s start (Value (put n acc b) (record { at = at + 1 }))
-    reading-last l = record { answer = sym (last-is l); inside = (omega (arith, r .on), omega arith) }
-
-    pub reading-more : 128 ≤ b → Reading s start (at + 1) (n + 1) (put n acc b)
-    reading-more l =
-        record {
-          few = omega arith;
-          on = omega (arith, r .on);
-          small = subst (λ (x : ℕ). x < 2 ^ (7 * (n + 1))) (sym (put-sum n acc b fewer (r .small))) (sum-lt n acc b (r .small));
-          whole =
-              rest-is (suc (10 - (n + 1))) (payload (getD s at 0 % 128) (varintOf (10 - (n + 1)) (drop (at + 1) s))) (omega arith)
-              (varint-more s at (10 - (n + 1)) inside (subst (λ (x : ℕ). 128 ≤ x) e l))
-              ∙ weighed-more (2 ^ (7 * n)) acc (getD s at 0 % 128) (varintOf (10 - (n + 1)) (drop (at + 1) s))
-              ∙ ap₂ (λ (p x : ℕ). lowBits 64 (weighed p x (varintOf (10 - (n + 1)) (drop (at + 1) s)))) (sym (weight-more n))
-              (ap (λ (x : ℕ). (acc + x % 128 * 2 ^ (7 * n)) % 2 ^ 64) (sym e) ∙ sym (put-sum n acc b fewer (r .small)));
-        }
+  last-post : {b v : ℕ} → at < length s → b ≡ getD s at 0 → b < 128 → v ≡ (x + b * w) % 2 ^ 64 → VarintPost s start (Value v (record { at = at + 1 }))
+  last-post {b} inside e l f =
+      record {
+        answer =
+            ap (λ (y : ℕ). got y (drop (at + 1) s)) f
+            ∙ low-is (drop start s) (got (x + b * w) (drop (at + 1) s)) (begun-last n g inside e l);
+        inside = (omega (arith, g .on), omega arith);
+      }
 
 -- A varint at its first byte.
 pub no-byte : {s : List ℕ} {at : ℕ} → length s ≤ at → VarintPost s at Cut
-unfolding varint64
-no-byte {s} {at} h = record { answer = sym (ap (λ (r : Read ℕ). lowBits 64 r) (varint-end s at 9 h)); inside = tt }
+no-byte {s} {at} h = cut-post 9 (begun-none 10 s at) h
 
 pub one-byte : {s : List ℕ} {at b : ℕ} → at < length s → b ≡ getD s at 0 → b < 128 → VarintPost s at (Value b (record { at = at + 1 }))
-unfolding varint64
-one-byte {s} {at} {b} h e l =
-    record {
-      answer =
-          sym
-          (ap (λ (r : Read ℕ). lowBits 64 r) (varint-last s at 9 h (subst (λ (x : ℕ). x < 128) e l))
-          ∙ ap (λ (x : ℕ). got x (drop (at + 1) s)) (let f : getD s at 0 % 2 ^ 64 ≡ b = omega arith in f));
-      inside = (omega arith, omega arith);
-    }
+one-byte {s} {at} h e l = last-post 9 (begun-none 10 s at) h e l (omega arith)
+
+-- Where the reader of a long varint is: n bytes were read, and acc has the low 64 bits of their value.
+pub record Reading (s : List ℕ) (start at n acc : ℕ) : Type 0 where
+  pub few : n ≤ 10
+  pub exact : ℕ
+  pub begun : Begun 10 s start at (10 - n) (2 ^ (7 * n)) exact
+  pub low : acc ≡ exact % 2 ^ 64
+
+pub reading-none : (s : List ℕ) (start : ℕ) → Reading s start start 0 0
+reading-none s start = record { few = omega arith; exact = 0; begun = begun-none 10 s start; low = refl }
+
+module _ {s : List ℕ} {start at n acc : ℕ} (r : Reading s start at n acc) where
+  left : (m : ℕ) → 10 - n ≡ m → Begun 10 s start at m (2 ^ (7 * n)) (r .exact)
+  left m e = subst (λ (k : ℕ). Begun 10 s start at k (2 ^ (7 * n)) (r .exact)) e (r .begun)
+
+  pub reading-long : 10 ≤ n → VarintPost s start Long
+  reading-long h = record { answer = low-is (drop start s) (refused 4) (begun-long (left 0 (omega (arith, r .few)))); inside = tt }
+
+  module _ (fewer : n < 10) where
+    pub reading-cut : length s ≤ at → VarintPost s start Cut
+    reading-cut h = cut-post (9 - n) (left (suc (9 - n)) (omega arith)) h
+
+    module _ {b : ℕ} (inside : at < length s) (e : b ≡ getD s at 0) where
+      put-is : put n acc b ≡ (r .exact + b % 128 * 2 ^ (7 * n)) % 2 ^ 64
+      put-is = ap (λ (x : ℕ). put n x b) (r .low) ∙ put-sum n (r .exact) b fewer (r .begun .small)
+
+      pub reading-last : b < 128 → VarintPost s start (Value (put n acc b) (record { at = at + 1 }))
+      reading-last l =
+          last-post (9 - n) (left (suc (9 - n)) (omega arith)) inside e l
+          (put-is ∙ ap (λ (x : ℕ). (r .exact + x * 2 ^ (7 * n)) % 2 ^ 64) (let f : b % 128 ≡ b = omega arith in f))
+
+      pub reading-more : 128 ≤ b → Reading s start (at + 1) (n + 1) (put n acc b)
+      reading-more l =
+          record {
+            few = omega arith;
+            exact = r .exact + b % 128 * 2 ^ (7 * n);
+            begun =
+                subst (λ (w : ℕ). Begun 10 s start (at + 1) (10 - (n + 1)) w (r .exact + b % 128 * 2 ^ (7 * n))) (sym (weight-more n))
+                (begun-more (10 - (n + 1)) (left (suc (10 - (n + 1))) (omega arith)) inside e l refl);
+            low = put-is;
+          }
 
 -- ---- writing
 
@@ -249,6 +272,32 @@ there-and-back (suc n) v l h =
     ⊎-elim (back-last (suc n) v l)
     (back-more (suc n) v l
     (there-and-back n (v / 128) l (rest-lt n v h))) (side v 128)
+
+-- A value in its fewest bytes is no longer than the bytes that it was read from.
+pub short-varint : (n : ℕ) (l : List ℕ) (v : ℕ) (rest : List ℕ) → varintOf n l ≡ got v rest → length (varintBytes n v) + length rest ≤ length l
+short-varint zero l v rest e = absurd (let z : _≡_ {A = ℕ} 0 1 = cc (varint-none l) in omega arith)
+short-varint (suc n) [] v rest e = absurd (let z : _≡_ {A = ℕ} 0 1 = cc (varint-end [] 0 n (omega arith)) in omega arith)
+short-varint (suc n) (b ∷ l) v rest e =
+    ⊎-elim
+    (λ (h : b < 128).
+    let f : got b l ≡ got v rest = sym (varint-last (b ∷ l) 0 n (omega arith) h) ∙ e in
+    let x : b ≡ v = cc in
+    let y : l ≡ rest = cc in
+    omega (arith, ap length y, len-last n v (subst (λ (k : ℕ). k < 128) x h)))
+    (λ (h : 128 ≤ b). go (short-varint n l) (varintOf n l) refl (sym (varint-more (b ∷ l) 0 n (omega arith) h) ∙ e)) (side b 128)
+  where
+    go : ((w : ℕ) (rest : List ℕ) → varintOf n l ≡ got w rest → length (varintBytes n w) + length rest ≤ length l)
+        → (r : Read ℕ) → varintOf n l ≡ r → payload (b % 128) r ≡ got v rest → length (varintBytes (suc n) v) + length rest ≤ suc (length l)
+    go ih (refused k) f g = absurd (let z : _≡_ {A = ℕ} 0 1 = cc in omega arith)
+    go ih (got w rest′) f g =
+        let x : b % 128 + 128 * w ≡ v = cc in
+        let y : rest′ ≡ rest = cc in
+        let i : length (varintBytes n w) + length rest ≤ length l = ih w rest (f ∙ ap (λ (z : List ℕ). got w z) y) in
+        ⊎-elim (λ (h : v < 128). let a : length (varintBytes (suc n) v) + length rest ≤ suc (length l) = omega (arith, len-last n v h) in a)
+        (λ (h : 128 ≤ v).
+        let q : v / 128 ≡ w = omega arith in
+        let a : length (varintBytes (suc n) v) + length rest ≤ suc (length l) = omega (arith, len-more n v h, ap (λ (k : ℕ). length (varintBytes n k)) q) in a)
+        (side v 128)
 
 -- Where the writer is: m is how many bytes more the number may have.
 pub record Left (out : List ℕ) (at v : ℕ) (done : List ℕ) (past : ℕ) : Type 0 where

@@ -26,10 +26,10 @@ returns : tie.Need-returns
 returns c = search needs
 
 array-share-prefix-list : tie.Need-array-share-prefix-list
-array-share-prefix-list c = listed _ (c .before .before .before .before .read-list .last .1 .0) (c .before .before .before .before .read-list .result) (c .before .r .given .0 .0) (c .before .r .given .1) (c .before .before .before .before .read-list .ensures) .0
+array-share-prefix-list c = listed _ _ _ (c .before .before .before .before .read-list .last .1 .0) (c .before .before .before .before .read-list .result) (c .before .r .given .0 .0) (c .before .r .given .1) (c .before .before .before .before .read-list .ensures) .0
 
 slice-aggregate-count-case : tie.Need-slice-aggregate-count-case
-slice-aggregate-count-case c = listed _ (c .before .before .before .before .before .read-list .last .1 .0) (c .before .before .before .before .before .read-list .result) (c .before .before .r .given .0 .0) (c .before .before .r .given .1) (c .before .before .before .before .before .read-list .ensures) .1
+slice-aggregate-count-case c = listed _ _ _ (c .before .before .before .before .before .read-list .last .1 .0) (c .before .before .before .before .before .read-list .result) (c .before .before .r .given .0 .0) (c .before .before .r .given .1) (c .before .before .before .before .before .read-list .ensures) .1
 
 count-case-requires : tie.Need-count-case-requires
 count-case-requires c κs = search needs

@@ -26,10 +26,10 @@ returns : tie.Need-returns
 returns c = search needs
 
 array-share-prefix-list : tie.Need-array-share-prefix-list
-array-share-prefix-list c = listed _ (c .before .before .before .before .read-list .last .1 .0) (c .before .before .before .before .read-list .result) (c .before .r .given .0 .0) (c .before .r .given .1) (c .before .before .before .before .read-list .ensures) .0
+array-share-prefix-list c = listed _ _ _ (c .before .before .before .before .read-list .last .1 .0) (c .before .before .before .before .read-list .result) (c .before .r .given .0 .0) (c .before .r .given .1) (c .before .before .before .before .read-list .ensures) .0
 
 slice-aggregate-encode-case : tie.Need-slice-aggregate-encode-case
-slice-aggregate-encode-case c = listed _ (c .before .before .before .before .before .read-list .last .1 .0) (c .before .before .before .before .before .read-list .result) (c .before .before .r .given .0 .0) (c .before .before .r .given .1) (c .before .before .before .before .before .read-list .ensures) .1
+slice-aggregate-encode-case c = listed _ _ _ (c .before .before .before .before .before .read-list .last .1 .0) (c .before .before .before .before .before .read-list .result) (c .before .before .r .given .0 .0) (c .before .before .r .given .1) (c .before .before .before .before .before .read-list .ensures) .1
 
 encode-case-requires : tie.Need-encode-case-requires
 encode-case-requires c κs = search needs

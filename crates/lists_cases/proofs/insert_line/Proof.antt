@@ -59,16 +59,16 @@ slice-aggregate-insert-case : tie.Need-slice-aggregate-insert-case
 slice-aggregate-insert-case c = search needs
 
 array-share-prefix-incoming : tie.Need-array-share-prefix-incoming
-array-share-prefix-incoming c = listed _ (c .before .before .before .before .before .before .before .before .before .before .read-list2 .last .1 .0) (c .before .before .before .before .before .before .before .before .before .before .read-list2 .result) (c .before .before .before .before .before .before .before .q .given .0 .0) (c .before .before .before .before .before .before .before .q .given .1) (c .before .before .before .before .before .before .before .before .before .before .read-list2 .ensures) .0
+array-share-prefix-incoming c = listed _ _ _ (c .before .before .before .before .before .before .before .before .before .before .read-list2 .last .1 .0) (c .before .before .before .before .before .before .before .before .before .before .read-list2 .result) (c .before .before .before .before .before .before .before .q .given .0 .0) (c .before .before .before .before .before .before .before .q .given .1) (c .before .before .before .before .before .before .before .before .before .before .read-list2 .ensures) .0
 
 slice-aggregate-insert-case-2 : tie.Need-slice-aggregate-insert-case-2
-slice-aggregate-insert-case-2 c = listed _ (c .before .before .before .before .before .before .before .before .before .before .before .read-list2 .last .1 .0) (c .before .before .before .before .before .before .before .before .before .before .before .read-list2 .result) (c .before .before .before .before .before .before .before .before .q .given .0 .0) (c .before .before .before .before .before .before .before .before .q .given .1) (c .before .before .before .before .before .before .before .before .before .before .before .read-list2 .ensures) .1
+slice-aggregate-insert-case-2 c = listed _ _ _ (c .before .before .before .before .before .before .before .before .before .before .before .read-list2 .last .1 .0) (c .before .before .before .before .before .before .before .before .before .before .before .read-list2 .result) (c .before .before .before .before .before .before .before .before .q .given .0 .0) (c .before .before .before .before .before .before .before .before .q .given .1) (c .before .before .before .before .before .before .before .before .before .before .before .read-list2 .ensures) .1
 
 cast-insert-case : tie.Need-cast-insert-case
 cast-insert-case c = search needs
 
 insert-case-requires : tie.Need-insert-case-requires
-insert-case-requires c κs = (c .before .before .before .before .before .before .before .before .before .before .before .before .before .before .before .before .before .before .before .before .before .before .pre, listed _ (c .before .before .before .before .before .before .before .before .before .before .before .before .before .before .before .before .before .before .read-list .last .1 .0) (c .before .before .before .before .before .before .before .before .before .before .before .before .before .before .before .before .before .before .read-list .result) (c .before .before .before .before .before .before .before .before .before .before .before .before .before .before .before .r .given .0 .0) (c .before .before .before .before .before .before .before .before .before .before .before .before .before .before .before .r .given .1) (c .before .before .before .before .before .before .before .before .before .before .before .before .before .before .before .before .before .before .read-list .ensures) .0)
+insert-case-requires c κs = (c .before .before .before .before .before .before .before .before .before .before .before .before .before .before .before .before .before .before .before .before .before .before .pre, listed _ _ _ (c .before .before .before .before .before .before .before .before .before .before .before .before .before .before .before .before .before .before .read-list .last .1 .0) (c .before .before .before .before .before .before .before .before .before .before .before .before .before .before .before .before .before .before .read-list .result) (c .before .before .before .before .before .before .before .before .before .before .before .before .before .before .before .r .given .0 .0) (c .before .before .before .before .before .before .before .before .before .before .before .before .before .before .before .r .given .1) (c .before .before .before .before .before .before .before .before .before .before .before .before .before .before .before .before .before .before .read-list .ensures) .0)
 
 enum-told-3 : tie.Need-enum-told-3
 enum-told-3 c = search needs

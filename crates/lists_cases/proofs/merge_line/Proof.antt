@@ -47,16 +47,16 @@ returns-2 : tie.Need-returns-2
 returns-2 c = search needs
 
 array-share-prefix-a : tie.Need-array-share-prefix-a
-array-share-prefix-a c = listed _ (c .before .before .before .before .before .before .before .before .before .before .before .read-list .last .1 .0) (c .before .before .before .before .before .before .before .before .before .before .before .read-list .result) (c .before .before .before .before .before .before .before .before .r .given .0 .0) (c .before .before .before .before .before .before .before .before .r .given .1) (c .before .before .before .before .before .before .before .before .before .before .before .read-list .ensures) .0
+array-share-prefix-a c = listed _ _ _ (c .before .before .before .before .before .before .before .before .before .before .before .read-list .last .1 .0) (c .before .before .before .before .before .before .before .before .before .before .before .read-list .result) (c .before .before .before .before .before .before .before .before .r .given .0 .0) (c .before .before .before .before .before .before .before .before .r .given .1) (c .before .before .before .before .before .before .before .before .before .before .before .read-list .ensures) .0
 
 slice-aggregate-merge-case : tie.Need-slice-aggregate-merge-case
-slice-aggregate-merge-case c = listed _ (c .before .before .before .before .before .before .before .before .before .before .before .before .read-list .last .1 .0) (c .before .before .before .before .before .before .before .before .before .before .before .before .read-list .result) (c .before .before .before .before .before .before .before .before .before .r .given .0 .0) (c .before .before .before .before .before .before .before .before .before .r .given .1) (c .before .before .before .before .before .before .before .before .before .before .before .before .read-list .ensures) .1
+slice-aggregate-merge-case c = listed _ _ _ (c .before .before .before .before .before .before .before .before .before .before .before .before .read-list .last .1 .0) (c .before .before .before .before .before .before .before .before .before .before .before .before .read-list .result) (c .before .before .before .before .before .before .before .before .before .r .given .0 .0) (c .before .before .before .before .before .before .before .before .before .r .given .1) (c .before .before .before .before .before .before .before .before .before .before .before .before .read-list .ensures) .1
 
 array-share-prefix-b : tie.Need-array-share-prefix-b
-array-share-prefix-b c = listed _ (c .before .before .before .before .before .read-list2 .last .1 .0) (c .before .before .before .before .before .read-list2 .result) (c .before .before .q .given .0 .0) (c .before .before .q .given .1) (c .before .before .before .before .before .read-list2 .ensures) .0
+array-share-prefix-b c = listed _ _ _ (c .before .before .before .before .before .read-list2 .last .1 .0) (c .before .before .before .before .before .read-list2 .result) (c .before .before .q .given .0 .0) (c .before .before .q .given .1) (c .before .before .before .before .before .read-list2 .ensures) .0
 
 slice-aggregate-merge-case-2 : tie.Need-slice-aggregate-merge-case-2
-slice-aggregate-merge-case-2 c = listed _ (c .before .before .before .before .before .before .read-list2 .last .1 .0) (c .before .before .before .before .before .before .read-list2 .result) (c .before .before .before .q .given .0 .0) (c .before .before .before .q .given .1) (c .before .before .before .before .before .before .read-list2 .ensures) .1
+slice-aggregate-merge-case-2 c = listed _ _ _ (c .before .before .before .before .before .before .read-list2 .last .1 .0) (c .before .before .before .before .before .before .read-list2 .result) (c .before .before .before .q .given .0 .0) (c .before .before .before .q .given .1) (c .before .before .before .before .before .before .read-list2 .ensures) .1
 
 merge-case-requires : tie.Need-merge-case-requires
 merge-case-requires c κs = search needs

@@ -63,10 +63,10 @@ slice-aggregate-set-case : tie.Need-slice-aggregate-set-case
 slice-aggregate-set-case c = counted _ _ (c .before .before .before .before .before .before .before .before .before .before .before .before .before .before .read-bytes .last .1 .0) (c .before .before .before .before .before .before .before .before .before .before .before .before .before .before .read-bytes .result) (c .before .before .before .before .before .before .before .before .before .before .before .r .given .0 .0) (c .before .before .before .before .before .before .before .before .before .before .before .r .given .1) (c .before .before .before .before .before .before .before .before .before .before .before .before .before .before .read-bytes .ensures) .1
 
 array-share-prefix-list : tie.Need-array-share-prefix-list
-array-share-prefix-list c = listed _ (c .before .before .before .before .before .before .before .read-list .last .1 .0) (c .before .before .before .before .before .before .before .read-list .result) (c .before .before .before .before .q .given .0 .0) (c .before .before .before .before .q .given .1) (c .before .before .before .before .before .before .before .read-list .ensures) .0
+array-share-prefix-list c = listed _ _ _ (c .before .before .before .before .before .before .before .read-list .last .1 .0) (c .before .before .before .before .before .before .before .read-list .result) (c .before .before .before .before .q .given .0 .0) (c .before .before .before .before .q .given .1) (c .before .before .before .before .before .before .before .read-list .ensures) .0
 
 slice-aggregate-set-case-2 : tie.Need-slice-aggregate-set-case-2
-slice-aggregate-set-case-2 c = listed _ (c .before .before .before .before .before .before .before .before .read-list .last .1 .0) (c .before .before .before .before .before .before .before .before .read-list .result) (c .before .before .before .before .before .q .given .0 .0) (c .before .before .before .before .before .q .given .1) (c .before .before .before .before .before .before .before .before .read-list .ensures) .1
+slice-aggregate-set-case-2 c = listed _ _ _ (c .before .before .before .before .before .before .before .before .read-list .last .1 .0) (c .before .before .before .before .before .before .before .before .read-list .result) (c .before .before .before .before .before .q .given .0 .0) (c .before .before .before .before .before .q .given .1) (c .before .before .before .before .before .before .before .before .read-list .ensures) .1
 
 set-case-requires : tie.Need-set-case-requires
 set-case-requires c κs = search needs

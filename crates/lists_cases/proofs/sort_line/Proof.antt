@@ -26,10 +26,10 @@ returns : tie.Need-returns
 returns c = search needs
 
 array-borrow-prefix-list : tie.Need-array-borrow-prefix-list
-array-borrow-prefix-list c = listed _ (c .before .before .before .before .read-list .last .1 .0) (c .before .before .before .before .read-list .result) (c .before .r .given .0 .0) (c .before .r .given .1) (c .before .before .before .before .read-list .ensures) .0
+array-borrow-prefix-list c = listed _ _ _ (c .before .before .before .before .read-list .last .1 .0) (c .before .before .before .before .read-list .result) (c .before .r .given .0 .0) (c .before .r .given .1) (c .before .before .before .before .read-list .ensures) .0
 
 slice-aggregate-sort-case : tie.Need-slice-aggregate-sort-case
-slice-aggregate-sort-case c = listed _ (c .before .before .before .before .before .read-list .last .1 .0) (c .before .before .before .before .before .read-list .result) (c .before .before .r .given .0 .0) (c .before .before .r .given .1) (c .before .before .before .before .before .read-list .ensures) .1
+slice-aggregate-sort-case c = listed _ _ _ (c .before .before .before .before .before .read-list .last .1 .0) (c .before .before .before .before .before .read-list .result) (c .before .before .r .given .0 .0) (c .before .before .r .given .1) (c .before .before .before .before .before .read-list .ensures) .1
 
 sort-case-requires : tie.Need-sort-case-requires
 sort-case-requires c κs = search needs

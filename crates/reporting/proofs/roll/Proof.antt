@@ -17,7 +17,7 @@ slice-aggregate-hear : tie.Need-slice-aggregate-hear
 slice-aggregate-hear c = search needs
 
 hear-requires : tie.Need-hear-requires
-hear-requires c κs = (search needs, arrived-stream (c .before .before .before .before .read-all .last .1 .0) (c .before .before .before .before .read-all .result) (c .before .before .before .before .read-all .ensures))
+hear-requires c κs = (search needs, arrived-stream (c .before .before .before .before .read-all .last .1 .0) (c .before .before .before .before .read-all .result) (c .before .before .before .before .read-all .ensures .arrived))
 
 enum-known-heard : tie.Need-enum-known-heard
 enum-known-heard c = search needs
@@ -26,7 +26,7 @@ slice-aggregate-tell : tie.Need-slice-aggregate-tell
 slice-aggregate-tell c = search needs
 
 tell-requires : tie.Need-tell-requires
-tell-requires c κs = (c .before .before .before .before .before .before .before .before .before .before .before .read-all .ensures, subst (λ (h : Heard). HeardPost (c .before .before .before .before .before .before .before .before .before .before .before .read-all .result .stream) (c .before .before .before .before .before .before .before .before .before .before .before .read-all .last .1 .0) h (c .before .before .before .before .before .before .hear .last .1 .1 .0) (c .before .before .before .before .before .before .hear .last .1 .1 .1 .0)) (c .before .before .before .before .heard .given .1) (c .before .before .before .before .before .before .hear .ensures))
+tell-requires c κs = (c .before .before .before .before .before .before .before .before .before .before .before .read-all .ensures .arrived, subst (λ (h : Heard). HeardPost (c .before .before .before .before .before .before .before .before .before .before .before .read-all .result .stream) (c .before .before .before .before .before .before .before .before .before .before .before .read-all .last .1 .0) h (c .before .before .before .before .before .before .hear .last .1 .1 .0) (c .before .before .before .before .before .before .hear .last .1 .1 .1 .0)) (c .before .before .before .before .heard .given .1) (c .before .before .before .before .before .before .hear .ensures))
 
 enum-told : tie.Need-enum-told
 enum-told c = search needs
@@ -35,7 +35,7 @@ slice-aggregate-tell-2 : tie.Need-slice-aggregate-tell-2
 slice-aggregate-tell-2 c = search needs
 
 tell-requires-2 : tie.Need-tell-requires-2
-tell-requires-2 c κs = (c .before .before .before .before .before .before .before .before .before .before .read-all .ensures, subst (λ (h : Heard). HeardPost (c .before .before .before .before .before .before .before .before .before .before .read-all .result .stream) (c .before .before .before .before .before .before .before .before .before .before .read-all .last .1 .0) h (c .before .before .before .before .before .hear .last .1 .1 .0) (c .before .before .before .before .before .hear .last .1 .1 .1 .0)) (c .before .before .before .enum-told .given .1) (c .before .before .before .before .before .hear .ensures))
+tell-requires-2 c κs = (c .before .before .before .before .before .before .before .before .before .before .read-all .ensures .arrived, subst (λ (h : Heard). HeardPost (c .before .before .before .before .before .before .before .before .before .before .read-all .result .stream) (c .before .before .before .before .before .before .before .before .before .before .read-all .last .1 .0) h (c .before .before .before .before .before .hear .last .1 .1 .0) (c .before .before .before .before .before .hear .last .1 .1 .1 .0)) (c .before .before .before .enum-told .given .1) (c .before .before .before .before .before .hear .ensures))
 
 returns : tie.Need-returns
 returns c = search needs

@@ -5,7 +5,7 @@ use Prim.Native.Nat.{_*_, _/_, _%_, _-_, _≤_, _<_}
 use native.Mathlib.Omega.{arith}
 use lib.ListN.{length, take, drop, length-set}
 use borrow.Author.Needs.{needs}
-use Rattle.console.proofs.InputLaws.{hex-done, onto-nothing, hex-odd, hex-high, hex-low, hex-next, drop-next}
+use Rattle.console.proofs.InputLaws.{hex-done, onto-nothing, hex-odd, hex-high, hex-low, hex-next, drop-next, refused-free}
 use Rattle.console.specs.Input.{hexOf, onto}
 use Rattle.console.proofs.input.read_bytes.Statement.{statement}
 use Rattle.console.proofs.input.read_bytes.Tie as tie
@@ -17,10 +17,10 @@ abbrev μ-loop : tie.MeasureT-loop
 μ-loop word out₀ n i₀ out i = n - i
 
 returns : tie.Need-returns Inv-loop μ-loop
-returns c = inr (search needs)
+returns c = inr (search needs, refl)
 
 returns-2 : tie.Need-returns-2 Inv-loop μ-loop
-returns-2 c = inl (hex-odd _ (search needs))
+returns-2 c = inl (hex-odd _ (search needs), refused-free (c .before .before .before .before .args .word .now) _ _ 0 (omega arith) refl refl)
 
 loop-holds : tie.Need-loop-holds Inv-loop μ-loop
 loop-holds c = (onto-nothing (hexOf (c .before .before .before .before .args .word .now)), refl, refl, search needs, search needs, omega arith, search needs)
@@ -50,13 +50,13 @@ same-length : tie.Need-same-length Inv-loop μ-loop
 same-length c = search needs
 
 returns-3 : tie.Need-returns-3 Inv-loop μ-loop
-returns-3 c = let l = c .before .before .before .before .before .before .loop in inl (l .inv .0 ∙ hex-high _ (l .i) (omega arith) (omega arith) _)
+returns-3 c = let l = c .before .before .before .before .before .before .loop in inl (l .inv .0 ∙ hex-high _ (l .i) (omega arith) (omega arith) _, refused-free (c .before .before .before .before .before .before .before .before .before .before .before .args .word .now) _ _ (l .i) (omega arith) (l .inv .1) (l .inv .2))
 
 same-length-2 : tie.Need-same-length-2 Inv-loop μ-loop
 same-length-2 c = search needs
 
 returns-4 : tie.Need-returns-4 Inv-loop μ-loop
-returns-4 c = let l = c .before .before .before .before .before .before .before .loop in inl (l .inv .0 ∙ hex-low _ (l .i) (omega arith) (omega arith) _)
+returns-4 c = let l = c .before .before .before .before .before .before .before .loop in inl (l .inv .0 ∙ hex-low _ (l .i) (omega arith) (omega arith) _, refused-free (c .before .before .before .before .before .before .before .before .before .before .before .before .args .word .now) _ _ (l .i) (omega arith) (l .inv .1) (l .inv .2))
 
 mul-out : tie.Need-mul-out Inv-loop μ-loop
 mul-out c = search needs
@@ -91,7 +91,7 @@ same-length-3 c = search needs
 returns-5 : tie.Need-returns-5 Inv-loop μ-loop
 returns-5 c =
     let l = c .before .loop in
-    hex-done (c .before .before .before .before .before .before .args .word .now) (c .before .before .before .before .before .before .args .out .now) (l .out) (l .i) (length (c .before .before .before .before .before .before .args .word .now) / 2) (omega arith) (omega arith) (omega arith) (l .inv .0) (l .inv .1)
+    hex-done (c .before .before .before .before .before .before .args .word .now) (c .before .before .before .before .before .before .args .out .now) (l .out) (l .i) (length (c .before .before .before .before .before .before .args .word .now) / 2) (omega arith) (omega arith) (omega arith) (l .inv .0) (l .inv .1) (l .inv .2)
 
 pub read-bytes-spec : {M : Type 1} → statement M
 read-bytes-spec =

@@ -29,7 +29,7 @@ same-length-2 : tie.Need-same-length-2
 same-length-2 c = search needs
 
 returns-2 : tie.Need-returns-2
-returns-2 c = streamed (c .before .before .before .before .before .read-all .last .1 .0) (c .before .before .before .before .before .read-all .result .stream) (c .before .stream .given .0 .0) (c .before .stream .given .1) (arrived-stream (c .before .before .before .before .before .read-all .last .1 .0) (c .before .before .before .before .before .read-all .result) (c .before .before .before .before .before .read-all .ensures))
+returns-2 c = (streamed (c .before .before .before .before .before .read-all .last .1 .0) (c .before .before .before .before .before .read-all .result .stream) (c .before .stream .given .0 .0) (c .before .stream .given .1) (arrived-stream (c .before .before .before .before .before .read-all .last .1 .0) (c .before .before .before .before .before .read-all .result) (c .before .before .before .before .before .read-all .ensures .arrived)), c .before .before .before .before .before .read-all .ensures .free)
 
 pub read-cases-spec : {M : Type 1} → statement M
 read-cases-spec =

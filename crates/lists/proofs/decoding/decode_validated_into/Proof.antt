@@ -1,25 +1,26 @@
 -- The values stored so far and those of the rest make up the list (`Going`), and the two values that the loop keeps decide for all of them. The
 -- cells past those values are as they were.
 use Prim.Native.Nat.{_≤_, _-_}
-use mathlib.Core.Path.{_≡_, refl, sym, _∙_}
+use mathlib.Core.Path.{_≡_, refl}
+use mathlib.Core.Bool.{true, false}
 use native.Mathlib.Omega.{arith}
-use lib.ListN.{length, drop, length-set}
-use borrow.Author.Tests.{not-true, not-false}
+use lib.ListN.{length, take, drop, length-set}
 use borrow.Author.Needs.{needs}
 use denote.Ref.{now}
+use Rattle.wire.proofs.BoolLaws.{said-yes, said-no}
 use Rattle.lists.proofs.CellLaws.{past-set}
-use Rattle.lists.proofs.DecodingLaws.{Going, going-start, going-next, going-stopped, going-plain, going-last, going-end}
+use Rattle.lists.proofs.DecodingLaws.{Going, going-start, going-next, going-stopped, going-end, going-stored, stored-stopped, stored-end}
 use Rattle.lists.proofs.decoding.decode_validated_into.Statement.{statement}
 use Rattle.lists.proofs.decoding.decode_validated_into.Tie as tie
 
 abbrev Inv-loop : tie.InvT-loop
-Inv-loop bytes enc out₀ at₀ k₀ last₀ plain₀ out at k last plain = Going (enc .«normal_precision») (enc .«sparse_precision») bytes out at k last plain × (length out ≡ length out₀) × (length bytes ≤ length out₀) × (drop k out ≡ drop k out₀)
+Inv-loop bytes enc out₀ at₀ k₀ last₀ plain₀ out at k last plain = Going (enc .«normal_precision») (enc .«sparse_precision») bytes (take k out) at last plain × (length out ≡ length out₀) × (length bytes ≤ length out₀) × (drop k out ≡ drop k out₀) × (k ≤ at)
 
 abbrev μ-loop : tie.MeasureT-loop
 μ-loop bytes enc out₀ at₀ k₀ last₀ plain₀ out at k last plain = length bytes - at
 
 loop-holds : tie.Need-loop-holds Inv-loop μ-loop
-loop-holds c = (going-start _ _ _ _, refl, c .before .before .pre .1, refl)
+loop-holds c = (going-start _ _ _, refl, c .before .before .pre .1, refl, omega arith)
 
 next-value-requires : tie.Need-next-value-requires Inv-loop μ-loop
 next-value-requires c κs = search needs
@@ -40,7 +41,7 @@ returns : tie.Need-returns Inv-loop μ-loop
 returns c =
     let i = c .before .before .before .before .before .loop .inv in
     record {
-      answer = going-stopped (i .0) (c .before .before .before .before .loop-test .taken) (c .before .before .before .next-value .result) (c .step-refusal .result) (c .before .before .match .keys2) (c .before .before .before .next-value .ensures) (c .step-refusal .ensures);
+      answer = stored-stopped _ (going-stopped (i .0) (c .before .before .before .before .loop-test .taken) (c .before .before .before .next-value .result) (c .step-refusal .result) (c .before .before .match .keys2) (c .before .before .before .next-value .ensures) (c .step-refusal .ensures));
       free = i .1;
     }
 
@@ -62,15 +63,17 @@ loop-less c = let a = rw (c .before .before .r .given .1) at (c .before .before 
 loop-again : tie.Need-loop-again Inv-loop μ-loop
 loop-again c =
     let l = c .before .before .before .before .before .before .loop in
-    let i = l .inv in (
-      going-next (i .0) (c .before .before .before .before .before .loop-test .taken) (search needs) (rw (c .before .before .r .given .1) at (c .before .before .before .before .next-value .ensures)) (c .later-plain .ensures),
+    let i = l .inv in
+    let a = rw (c .before .before .r .given .1) at (c .before .before .before .before .next-value .ensures) in (
+      going-stored (l .out) (l .k) (c .before .before .r .given .0 .0) (search needs) (going-next (i .0) (c .before .before .before .before .before .loop-test .taken) a (c .later-plain .ensures)),
       simp length-set (i .1),
       i .2,
       past-set (l .k) (l .out) (now (c .before .before .before .before .before .before .before .before .before .args .out)) (c .before .before .r .given .0 .0) (i .3),
+      omega (arith, i .4, a .inside .0),
     )
 
-is-valid-requires : tie.Need-is-valid-requires Inv-loop μ-loop
-is-valid-requires c κs = search needs
+ends-valid-requires : tie.Need-ends-valid-requires Inv-loop μ-loop
+ends-valid-requires c κs = search needs
 
 same-length-2 : tie.Need-same-length-2 Inv-loop μ-loop
 same-length-2 c = search needs
@@ -79,32 +82,18 @@ returns-2 : tie.Need-returns-2 Inv-loop μ-loop
 returns-2 c =
     let i = c .before .before .before .loop .inv in
     record {
-      answer = going-plain (i .0) (c .before .before .loop-test .left) (sym (c .before .is-valid .ensures) ∙ not-true _ (c .if1 .taken));
+      answer = stored-stopped _ (going-end (i .0) (c .before .before .loop-test .left) false (said-no (c .before .ends-valid .ensures) (c .if1 .taken)));
       free = i .1;
     }
-
-is-valid-requires-2 : tie.Need-is-valid-requires-2 Inv-loop μ-loop
-is-valid-requires-2 c κs = search needs
 
 same-length-3 : tie.Need-same-length-3 Inv-loop μ-loop
 same-length-3 c = search needs
 
 returns-3 : tie.Need-returns-3 Inv-loop μ-loop
 returns-3 c =
-    let i = c .before .before .before .before .before .loop .inv in
+    let i = c .before .before .before .loop .inv in
     record {
-      answer = going-last (i .0) (c .before .before .before .before .loop-test .left) (sym (c .before .is-valid2 .ensures) ∙ not-true _ (c .if2 .taken));
-      free = i .1;
-    }
-
-same-length-4 : tie.Need-same-length-4 Inv-loop μ-loop
-same-length-4 c = search needs
-
-returns-4 : tie.Need-returns-4 Inv-loop μ-loop
-returns-4 c =
-    let i = c .before .before .before .before .before .loop .inv in
-    record {
-      answer = going-end (i .0) (c .before .before .before .before .loop-test .left) (search needs) (sym (c .before .before .before .is-valid .ensures) ∙ not-false _ (c .before .before .if1 .left)) (sym (c .before .is-valid2 .ensures) ∙ not-false _ (c .if2 .left));
+      answer = stored-end _ _ (search needs) (going-end (i .0) (c .before .before .loop-test .left) true (said-yes (c .before .ends-valid .ensures) (c .if1 .left)));
       free = i .3;
     }
 
@@ -127,11 +116,8 @@ decode-validated-into-spec =
     add-k
     loop-less
     loop-again
-    is-valid-requires
+    ends-valid-requires
     same-length-2
     returns-2
-    is-valid-requires-2
     same-length-3
-    returns-3
-    same-length-4
-    returns-4)
+    returns-3)

@@ -4,7 +4,8 @@ use Prim.Native.Nat.{ℕ, _+_, _*_, _-_}
 use native.Mathlib.Omega.{arith}
 use borrow.Author.Needs.{needs}
 use denote.Ref.{now}
-use Rattle.lists.proofs.DecodingLaws.{Begun, gap-end, gap-one, gap-begun, begun-end, begun-last, begun-more, begun-long}
+use Rattle.wire.proofs.VarintLaws.{Begun, begun-none, begun-more}
+use Rattle.lists.proofs.DecodingLaws.{gap-cut, gap-last, gap-long}
 use Rattle.lists.proofs.decoding.read_gap.Statement.{statement}
 use Rattle.lists.proofs.decoding.read_gap.Tie as tie
 
@@ -23,23 +24,23 @@ value4 c = value3 (c .before .before .before .before) + (c .before .wide4 .resul
 
 -- After each of them: what the gap is, by the bytes that follow.
 past1 : (c : tie.Else2) → let o = c .before .before .before .before .before .args in
-    Begun (now (o .s)) (o .at) (o .at + 1) 4 128 (value1 c)
-past1 c = gap-begun (search needs) (c .before .wide .ensures .0) (c .if2 .left) (c .before .wide .ensures .1)
+    Begun 5 (now (o .s)) (o .at) (o .at + 1) 4 128 (value1 c)
+past1 c = begun-more 4 (begun-none 5 _ _) (search needs) (c .before .wide .ensures .0) (c .if2 .left) (omega (arith, c .before .wide .ensures .1))
 
 past2 : (c : tie.Else4) → let o = c .before .before .before .before .before .before .before .before .before .args in
-    Begun (now (o .s)) (o .at) (o .at + 1 + 1) 3 16384 (value2 c)
-past2 c = begun-more 3 (past1 (c .before .before .before .before)) (search needs) (c .before .wide2 .ensures .0) (c .if4 .left) (c .before .wide2 .ensures .1)
+    Begun 5 (now (o .s)) (o .at) (o .at + 1 + 1) 3 16384 (value2 c)
+past2 c = begun-more 3 (past1 (c .before .before .before .before)) (search needs) (c .before .wide2 .ensures .0) (c .if4 .left) (omega (arith, c .before .wide2 .ensures .1))
 
 past3 : (c : tie.Else6) → let o = c .before .before .before .before .before .before .before .before .before .before .before .before .before .args in
-    Begun (now (o .s)) (o .at) (o .at + 1 + 1 + 1) 2 2097152 (value3 c)
-past3 c = begun-more 2 (past2 (c .before .before .before .before)) (search needs) (c .before .wide3 .ensures .0) (c .if6 .left) (c .before .wide3 .ensures .1)
+    Begun 5 (now (o .s)) (o .at) (o .at + 1 + 1 + 1) 2 2097152 (value3 c)
+past3 c = begun-more 2 (past2 (c .before .before .before .before)) (search needs) (c .before .wide3 .ensures .0) (c .if6 .left) (omega (arith, c .before .wide3 .ensures .1))
 
 past4 : (c : tie.Else8) → let o = c .before .before .before .before .before .before .before .before .before .before .before .before .before .before .before .before .before .args in
-    Begun (now (o .s)) (o .at) (o .at + 1 + 1 + 1 + 1) 1 268435456 (value4 c)
-past4 c = begun-more 1 (past3 (c .before .before .before .before)) (search needs) (c .before .wide4 .ensures .0) (c .if8 .left) (c .before .wide4 .ensures .1)
+    Begun 5 (now (o .s)) (o .at) (o .at + 1 + 1 + 1 + 1) 1 268435456 (value4 c)
+past4 c = begun-more 1 (past3 (c .before .before .before .before)) (search needs) (c .before .wide4 .ensures .0) (c .if8 .left) (omega (arith, c .before .wide4 .ensures .1))
 
 returns : tie.Need-returns
-returns c = gap-end (c .if1 .taken)
+returns c = gap-cut 4 (begun-none 5 _ _) (c .if1 .taken)
 
 shared-slice-read-wide : tie.Need-shared-slice-read-wide
 shared-slice-read-wide c = search needs
@@ -51,10 +52,10 @@ add-at1 : tie.Need-add-at1
 add-at1 c = search needs
 
 returns-2 : tie.Need-returns-2
-returns-2 c = gap-one (search needs) (c .before .wide .ensures .0) (c .if2 .taken)
+returns-2 c = gap-last 4 (begun-none 5 _ _) (search needs) (c .before .wide .ensures .0) (c .if2 .taken) (omega arith) (omega arith)
 
 returns-3 : tie.Need-returns-3
-returns-3 c = begun-end 3 (past1 (c .before)) (c .if3 .taken)
+returns-3 c = gap-cut 3 (past1 (c .before)) (c .if3 .taken)
 
 shared-slice-read-wide-2 : tie.Need-shared-slice-read-wide-2
 shared-slice-read-wide-2 c = search needs
@@ -74,10 +75,10 @@ add-t20 c = search needs
 returns-4 : tie.Need-returns-4
 returns-4 c =
     let g = past1 (c .before .before .before .before) in
-    begun-last 3 g (search needs) (c .before .wide2 .ensures .0) (search needs) (omega (arith, g .small))
+    gap-last 3 g (search needs) (c .before .wide2 .ensures .0) (search needs) (omega arith) (omega (arith, g .small))
 
 returns-5 : tie.Need-returns-5
-returns-5 c = begun-end 2 (past2 (c .before)) (c .if5 .taken)
+returns-5 c = gap-cut 2 (past2 (c .before)) (c .if5 .taken)
 
 shared-slice-read-wide-3 : tie.Need-shared-slice-read-wide-3
 shared-slice-read-wide-3 c = search needs
@@ -103,10 +104,10 @@ add-t27 c = search needs
 returns-6 : tie.Need-returns-6
 returns-6 c =
     let g = past2 (c .before .before .before .before) in
-    begun-last 2 g (search needs) (c .before .wide3 .ensures .0) (search needs) (omega (arith, g .small))
+    gap-last 2 g (search needs) (c .before .wide3 .ensures .0) (search needs) (omega arith) (omega (arith, g .small))
 
 returns-7 : tie.Need-returns-7
-returns-7 c = begun-end 1 (past3 (c .before)) (c .if7 .taken)
+returns-7 c = gap-cut 1 (past3 (c .before)) (c .if7 .taken)
 
 shared-slice-read-wide-4 : tie.Need-shared-slice-read-wide-4
 shared-slice-read-wide-4 c = search needs
@@ -138,10 +139,10 @@ add-t37 c = search needs
 returns-8 : tie.Need-returns-8
 returns-8 c =
     let g = past3 (c .before .before .before .before) in
-    begun-last 1 g (search needs) (c .before .wide4 .ensures .0) (search needs) (omega (arith, g .small))
+    gap-last 1 g (search needs) (c .before .wide4 .ensures .0) (search needs) (omega arith) (omega (arith, g .small))
 
 returns-9 : tie.Need-returns-9
-returns-9 c = begun-end 0 (past4 (c .before)) (c .if9 .taken)
+returns-9 c = gap-cut 0 (past4 (c .before)) (c .if9 .taken)
 
 shared-slice-read-wide-5 : tie.Need-shared-slice-read-wide-5
 shared-slice-read-wide-5 c = search needs
@@ -179,10 +180,10 @@ add-t50 c = search needs
 returns-10 : tie.Need-returns-10
 returns-10 c =
     let g = past4 (c .before .before .before .before) in
-    begun-last 0 g (search needs) (c .before .wide5 .ensures .0) (search needs) (omega (arith, g .small))
+    gap-last 0 g (search needs) (c .before .wide5 .ensures .0) (search needs) (omega arith) (omega (arith, g .small))
 
 returns-11 : tie.Need-returns-11
-returns-11 c = begun-long (past4 (c .before .before .before .before)) (search needs) (c .before .wide5 .ensures .0) (c .if10 .left) (c .before .wide5 .ensures .1)
+returns-11 c = gap-long (past4 (c .before .before .before .before)) (search needs) (c .before .wide5 .ensures .0) (c .if10 .left)
 
 pub read-gap-spec : {M : Type 1} → statement M
 read-gap-spec =

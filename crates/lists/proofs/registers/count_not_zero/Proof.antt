@@ -4,12 +4,12 @@ use native.Mathlib.Omega.{arith}
 use denote.Ref.{now}
 use borrow.Author.Needs.{needs}
 use Rattle.lists.specs.Registers.{registersOf}
-use Rattle.lists.proofs.RegisterLaws.{not-yet, of-length, Counting, count-none, count-turn, count-end, first-held}
+use Rattle.lists.proofs.RegisterLaws.{not-yet, of-length, CountingNotZero, count-none, count-turn, count-end, first-held}
 use Rattle.lists.proofs.registers.count_not_zero.Statement.{statement}
 use Rattle.lists.proofs.registers.count_not_zero.Tie as tie
 
 abbrev Inv-loop : tie.InvT-loop
-Inv-loop registers p n count₀ i₀ count i = Counting (registersOf p registers) count i × (i ≤ 2 ^ p)
+Inv-loop registers p n count₀ i₀ count i = CountingNotZero (registersOf p registers) count i × (i ≤ 2 ^ p)
 
 abbrev μ-loop : tie.MeasureT-loop
 μ-loop registers p n count₀ i₀ count i = n - i

@@ -29,8 +29,8 @@ read-register-requires c κs =
     let l = c .before .loop in
     first-held (o .args .p) (l .i) (now (o .args .registers)) (o .pre .room) (not-yet (l .i) (c .before .before .register-count .result) (2 ^ o .args .p) (c .before .before .register-count .ensures .0) (l .inv .1) (c .loop-test .taken))
 
-larger-requires : tie.Need-larger-requires Inv-loop μ-loop
-larger-requires c κs = search needs
+max-u8-requires : tie.Need-max-u8-requires Inv-loop μ-loop
+max-u8-requires c κs = search needs
 
 add-i : tie.Need-add-i Inv-loop μ-loop
 add-i c = search needs
@@ -46,9 +46,9 @@ loop-again c =
     let o = c .before .before .before .before .before .before in
     let l = c .before .before .before .loop in
     let h = not-yet (l .i) (c .before .before .before .before .register-count .result) (2 ^ o .args .p) (c .before .before .before .before .register-count .ensures .0) (l .inv .1) (c .before .before .loop-test .taken) in (
-      top-turn (registersOf (o .args .p) (now (o .args .registers))) (l .top) (l .i) (c .larger .result) (c .before .read-register .result)
+      top-turn (registersOf (o .args .p) (now (o .args .registers))) (l .top) (l .i) (c .max-u8 .result) (c .before .read-register .result)
           (omega (arith, of-length (o .args .p) (now (o .args .registers)) (o .pre .room), h))
-          (c .before .read-register .ensures .value (o .args .p) (o .pre .room) h) (c .larger .ensures) (l .inv .0),
+          (c .before .read-register .ensures .value (o .args .p) (o .pre .room) h) (c .max-u8 .ensures) (l .inv .0),
       omega (arith, h),
     )
 
@@ -68,7 +68,7 @@ largest-register-spec =
     register-count-requires
     loop-holds
     read-register-requires
-    larger-requires
+    max-u8-requires
     add-i
     loop-less
     loop-again

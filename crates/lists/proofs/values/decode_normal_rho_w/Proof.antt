@@ -1,4 +1,4 @@
--- `decode_normal_rho_w` meets its contract: the definition has the same two cases, and a valid value's rank is at most 88 - p.
+-- `decode_normal_rho_w` meets its contract: the definition has the same two cases, and a valid value's rank is at most `largestRank p`.
 use Rattle.lists.proofs.ValueLaws.{rank-plain-post, rank-marked-post}
 use borrow.Author.Tests.{not-true, not-false}
 use mathlib.Core.Path.{sym, _∙_, refl}

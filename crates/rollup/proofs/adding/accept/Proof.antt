@@ -1,42 +1,41 @@
--- Each form has its path, whose promise is that of the accepted state.
+-- The numbers are the state's (`accept-path`, `accept-taking`), and what is left is what an accepted state leaves (`accept-post`).
 use mathlib.Core.Path.{sym}
 use lib.Seq.{length-take-le}
 use denote.Ref.{now}
 use Rattle.wire.specs.State.{stateOf}
-use Rattle.rollup.proofs.AddLaws.{path-start, path-sparse, path-dense}
+use Rattle.rollup.specs.Accumulator.{Mem, mem}
+use Rattle.rollup.proofs.AddLaws.{accept-few, accept-kept, accept-path, accept-taking, accept-post}
 use borrow.Author.Needs.{needs}
 use Rattle.rollup.proofs.adding.accept.Statement.{statement}
 use Rattle.rollup.proofs.adding.accept.Tie as tie
 
-enum-told : tie.Need-enum-told
-enum-told c = search needs
+sparse-data-requires : tie.Need-sparse-data-requires
+sparse-data-requires c κs = search needs
 
-slice-reshare-prefix-start : tie.Need-slice-reshare-prefix-start
-slice-reshare-prefix-start c = search needs
+state-numbers-requires : tie.Need-state-numbers-requires
+state-numbers-requires c κs = accept-few (@START .pre)
 
-slice-aggregate-start : tie.Need-slice-aggregate-start
-slice-aggregate-start c = sym (length-take-le (c .before .before .before .before .before .before .before .before .before .before .args .k) (now (c .before .before .before .before .before .before .before .before .before .before .args .scratch)) (c .before .before .before .before .before .before .before .before .before .before .pre .0 .inside))
+slice-reshare-prefix-path-of : tie.Need-slice-reshare-prefix-path-of
+slice-reshare-prefix-path-of c = accept-kept (@START .pre)
 
-start-requires : tie.Need-start-requires
-start-requires c κs = search needs
+slice-aggregate-path-of : tie.Need-slice-aggregate-path-of
+slice-aggregate-path-of c = let o = @START in sym (length-take-le (o .args .a .«sparse_len») (now (o .args .sparse)) (accept-kept (o .pre)))
 
-enum-told-2 : tie.Need-enum-told-2
-enum-told-2 c = search needs
+path-of-requires : tie.Need-path-of-requires
+path-of-requires c κs =
+    let o = @START in accept-path (o .pre) (@state-numbers .result) _ (@sparse-data .ensures) (@state-numbers .ensures (now (o .args .bytes)))
 
-accept-sparse-requires : tie.Need-accept-sparse-requires
-accept-sparse-requires c κs = search needs
+distinct-after-requires : tie.Need-distinct-after-requires
+distinct-after-requires c κs = search needs
 
-enum-told-3 : tie.Need-enum-told-3
-enum-told-3 c = search needs
+data-requires : tie.Need-data-requires
+data-requires c κs = search needs
 
-slice-reshare-prefix-accept-dense : tie.Need-slice-reshare-prefix-accept-dense
-slice-reshare-prefix-accept-dense c = search needs
-
-slice-aggregate-accept-dense : tie.Need-slice-aggregate-accept-dense
-slice-aggregate-accept-dense c = sym (length-take-le (c .before .before .before .before .before .before .before .before .before .args .k) (now (c .before .before .before .before .before .before .before .before .before .args .scratch)) (c .before .before .before .before .before .before .before .before .before .pre .0 .inside))
-
-accept-dense-requires : tie.Need-accept-dense-requires
-accept-dense-requires c κs = search needs
+take-requires : tie.Need-take-requires
+take-requires c κs =
+    let o = @START in
+    accept-taking (o .pre) (@state-numbers .result) _ (@sparse-data .ensures) (@state-numbers .ensures (now (o .args .bytes))) (@path-of .result) (@path-of .ensures) _
+    (@data .ensures)
 
 same-length : tie.Need-same-length
 same-length c = search needs
@@ -47,56 +46,29 @@ same-length-2 c = search needs
 same-length-3 : tie.Need-same-length-3
 same-length-3 c = search needs
 
-returns : tie.Need-returns
-returns c = let o = c .before .before .before .before .before .before .before .before .before .before .before .before .before .before .before in path-start (o .args .a) (now (o .args .registers)) (now (o .args .sparse)) (now (o .args .pending)) (now (o .args .scratch)) (stateOf (now (o .args .bytes)) (o .args .f)) (o .args .k) (c .before .before .before .before .start .result) _ _ (c .before .before .before .before .before .before .before .before .enum-told .given .1) (c .before .before .before .before .start .ensures)
-
 same-length-4 : tie.Need-same-length-4
 same-length-4 c = search needs
 
-same-length-5 : tie.Need-same-length-5
-same-length-5 c = search needs
-
-same-length-6 : tie.Need-same-length-6
-same-length-6 c = search needs
-
-same-length-7 : tie.Need-same-length-7
-same-length-7 c = search needs
-
-returns-2 : tie.Need-returns-2
-returns-2 c = let o = c .before .before .before .before .before .before .before .before .before .before .before .before .before .before .before .before .before .before .before .before in path-sparse (o .args .a) (now (o .args .registers)) (now (o .args .sparse)) (now (o .args .pending)) (now (o .args .scratch)) (stateOf (now (o .args .bytes)) (o .args .f)) (o .args .k) (c .before .before .before .before .before .before .before .before .accept-sparse .result) _ (c .before .before .before .before .before .before .before .before .before .before .before .before .before .enum-told2 .given .1) (c .before .before .before .before .before .before .before .before .accept-sparse .ensures)
-
-same-length-8 : tie.Need-same-length-8
-same-length-8 c = search needs
-
-same-length-9 : tie.Need-same-length-9
-same-length-9 c = search needs
-
-returns-3 : tie.Need-returns-3
-returns-3 c = let o = c .before .before .before .before .before .before .before .before .before .before .before .before in path-dense (o .args .a) (now (o .args .registers)) (now (o .args .sparse)) (now (o .args .pending)) (now (o .args .scratch)) (stateOf (now (o .args .bytes)) (o .args .f)) (o .args .k) (c .before .before .accept-dense .result) _ (c .before .before .before .before .before .enum-told3 .given .1) (c .before .before .accept-dense .ensures)
+returns : tie.Need-returns
+returns c =
+    let o = @START in
+    accept-post (o .pre) (@state-numbers .result) _ (@sparse-data .ensures) (@state-numbers .ensures (now (o .args .bytes))) (@path-of .result) (@path-of .ensures) _
+    (@data .ensures) (@take .result) _ (@distinct-after .result) (@distinct-after .ensures) (@take .ensures)
 
 pub accept-spec : {M : Type 1} → statement M
 accept-spec =
     tie.close
     (tie.spec
-    enum-told
-    slice-reshare-prefix-start
-    slice-aggregate-start
-    start-requires
-    enum-told-2
-    accept-sparse-requires
-    enum-told-3
-    slice-reshare-prefix-accept-dense
-    slice-aggregate-accept-dense
-    accept-dense-requires
+    sparse-data-requires
+    state-numbers-requires
+    slice-reshare-prefix-path-of
+    slice-aggregate-path-of
+    path-of-requires
+    distinct-after-requires
+    data-requires
+    take-requires
     same-length
     same-length-2
     same-length-3
-    returns
     same-length-4
-    same-length-5
-    same-length-6
-    same-length-7
-    returns-2
-    same-length-8
-    same-length-9
-    returns-3)
+    returns)

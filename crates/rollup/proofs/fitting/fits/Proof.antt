@@ -1,7 +1,8 @@
 -- By the form: each asks for its own part of the memory.
-use mathlib.Core.Path.{_∙_}
+use mathlib.Core.Path.{sym, _∙_}
+use Rattle.rollup.specs.declared.accumulator.Form.the-variants.{Unstarted, Sparse, Dense}
 use Rattle.rollup.specs.Accumulator.{mem}
-use Rattle.rollup.proofs.FitLaws.{whole-none, whole-sparse, whole-dense}
+use Rattle.rollup.proofs.FitLaws.{fits-form}
 use borrow.Author.Needs.{needs}
 use Rattle.rollup.proofs.fitting.fits.Statement.{statement}
 use Rattle.rollup.proofs.fitting.fits.Tie as tie
@@ -28,19 +29,19 @@ returns : tie.Need-returns
 returns c =
     let o = c .before .before .before .before .before .before in
     c .no-lists .ensures
-    ∙ whole-none (o .args .a) (mem (o .args .registers .now) (o .args .sparse .now) (o .args .pending .now)) (c .before .enum-told .given .1)
+    ∙ sym (fits-form (o .args .a) (mem (o .args .registers .now) (o .args .sparse .now) (o .args .pending .now)) Unstarted (c .before .enum-told .given .1))
 
 returns-2 : tie.Need-returns-2
 returns-2 c =
     let o = c .before .before .before .before .before .before in
     c .sparse-fits .ensures
-    ∙ whole-sparse (o .args .a) (mem (o .args .registers .now) (o .args .sparse .now) (o .args .pending .now)) (c .before .enum-told2 .given .1)
+    ∙ sym (fits-form (o .args .a) (mem (o .args .registers .now) (o .args .sparse .now) (o .args .pending .now)) Sparse (c .before .enum-told2 .given .1))
 
 returns-3 : tie.Need-returns-3
 returns-3 c =
     let o = c .before .before .before .before .before .before in
     c .dense-fits .ensures
-    ∙ whole-dense (o .args .a) (mem (o .args .registers .now) (o .args .sparse .now) (o .args .pending .now)) (c .before .enum-told3 .given .1)
+    ∙ sym (fits-form (o .args .a) (mem (o .args .registers .now) (o .args .sparse .now) (o .args .pending .now)) Dense (c .before .enum-told3 .given .1))
 
 pub fits-spec : {M : Type 1} → statement M
 fits-spec =

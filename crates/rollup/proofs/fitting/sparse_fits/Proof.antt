@@ -1,9 +1,9 @@
--- Ranges, counts and lists together are the definition's parts in another order; the counts lie inside before parts are taken.
+-- Ranges, counts and lists are the definition's parts, in its order; the counts lie inside before parts are taken.
 use mathlib.Core.Path.{sym, _∙_}
 use lib.ListN.{length}
 use lib.Seq.{length-take-le}
-use Rattle.wire.proofs.BoolLaws.{said-yes, said-no}
-use Rattle.rollup.proofs.FitLaws.{ranges-pair, counts-of, asked-ranges, asked-counts, asked-lists}
+use Rattle.wire.proofs.BoolLaws.{both, said-yes, said-no}
+use Rattle.rollup.proofs.FitLaws.{both-yes, both-no, ranges-pair, counts-of}
 use borrow.Author.Needs.{needs}
 use Rattle.rollup.proofs.fitting.sparse_fits.Statement.{statement}
 use Rattle.rollup.proofs.fitting.sparse_fits.Tie as tie
@@ -13,17 +13,17 @@ ranges-fit-requires c κs = search needs
 
 returns : tie.Need-returns
 returns c =
-    let o = c .before .before .before .before in
-    asked-ranges (o .args .a) (o .args .sparse .now) (o .args .pending .now) (said-no (c .before .ranges-fit .ensures) (c .if1 .taken))
+    sym (both-no _ (both-no _ (said-no (c .before .ranges-fit .ensures) (c .if1 .taken))))
 
 counts-fit-requires : tie.Need-counts-fit-requires
 counts-fit-requires c κs = let x = ranges-pair (c .before .before .before .before .args .a .precision) (c .before .before .before .before .args .a .«sparse_precision») (said-yes (c .before .ranges-fit .ensures) (c .if1 .left)) in (x .low, x .high)
 
 returns-2 : tie.Need-returns-2
 returns-2 c =
-    let o = c .before .before .before .before .before .before in
-    asked-counts (o .args .a) (o .args .sparse .now) (o .args .pending .now) (said-yes (c .before .before .before .ranges-fit .ensures) (c .before .before .if1 .left))
-    (said-no (c .before .counts-fit .ensures) (c .if2 .taken))
+    sym
+    (both-no _
+    (both-yes _ (said-yes (c .before .before .before .ranges-fit .ensures) (c .before .before .if1 .left))
+    ∙ said-no (c .before .counts-fit .ensures) (c .if2 .taken)))
 
 slice-aggregate-lists-fit : tie.Need-slice-aggregate-lists-fit
 slice-aggregate-lists-fit c =
@@ -44,10 +44,11 @@ lists-fit-requires c κs =
 
 returns-3 : tie.Need-returns-3
 returns-3 c =
-    let o = c .before .before .before .before .before .before .before .before .before in
     c .lists-fit .ensures
-    ∙ asked-lists (o .args .a) (o .args .sparse .now) (o .args .pending .now) (said-yes (c .before .before .before .before .before .before .ranges-fit .ensures) (c .before .before .before .before .before .if1 .left))
-    (said-yes (c .before .before .before .before .counts-fit .ensures) (c .before .before .before .if2 .left))
+    ∙ sym
+    (both-yes _
+    (both (said-yes (c .before .before .before .before .before .before .ranges-fit .ensures) (c .before .before .before .before .before .if1 .left))
+    (said-yes (c .before .before .before .before .counts-fit .ensures) (c .before .before .before .if2 .left))))
 
 pub sparse-fits-spec : {M : Type 1} → statement M
 sparse-fits-spec =

@@ -1,14 +1,17 @@
--- Each return is the definition's answer where the memory before it suffices; without list bytes no cell is asked for.
-use Prim.Native.Nat.{ℕ, _+_, _≤_}
-use mathlib.Core.Path.{_≡_, sym, _∙_, subst}
-use mathlib.Core.Bool.{Bool}
-use mathlib.Core.List.{List}
+-- Each return is the definition's answer where the memory before it suffices.
+use Prim.Native.Nat.{ℕ, _+_, _^_, _<_}
+use mathlib.Core.Path.{_≡_, sym, ap, _∙_, subst}
+use mathlib.Core.Bool.{_&&_}
+use lib.Dec.{leb}
 use lib.ListN.{length}
+use borrow.Author.Tests.{le-leb, lt-leb}
 use denote.Ref.{now}
+use Rattle.wire.proofs.BoolLaws.{both}
 use Rattle.wire.specs.State.{State, stateOf}
 use Rattle.rollup.specs.Accumulator.{Mem, mem}
 use Rattle.rollup.specs.Adding.{wantedCells, hasRoom}
-use Rattle.rollup.proofs.JudgeLaws.{wanted-high, cellsIn, registers-no, registers-yes, cells-none, cells-some, cells-least}
+use Rattle.rollup.proofs.FitLaws.{both-yes, both-no}
+use Rattle.rollup.proofs.JudgeLaws.{wanted-high, wanted-small, registers-no, registers-yes}
 use borrow.Author.Needs.{needs}
 use Rattle.rollup.proofs.judging.has_room.Statement.{statement}
 use Rattle.rollup.proofs.judging.has_room.Tie as tie
@@ -23,76 +26,48 @@ room o = length (now (o .args .scratch))
 abbrev st : tie.Start → State
 st o = stateOf (now (o .args .bytes)) (o .args .f)
 
--- The definition's answer, and how many cells each list is to take.
-abbrev wanted : tie.Start → Bool
-wanted o = hasRoom (o .args .a) (m o) (room o) (st o)
-
-abbrev sum : tie.Start → List ℕ → ℕ
-sum o d = o .args .a .«sparse_len» + o .args .a .«pending_len» + length d
-
-past-registers : (c : tie.Else1) → let o = c .before .before .before .before .before .before .before .before in
-    wanted o ≡ cellsIn (m o) (room o) (wantedCells (o .args .a) (st o))
+-- What is left of the question where the registers suffice.
+past-registers : (c : tie.After-wanted-cells) → let o = c .before .before .before .before .before .before .before .before .before in
+    hasRoom (o .args .a) (m o) (room o) (st o)
+    ≡ (leb (c .wanted-cells .result) (length (m o .sparse)) && leb (c .wanted-cells .result) (length (m o .pending)) && leb (c .wanted-cells .result) (room o))
 past-registers c =
-    let o = c .before .before .before .before .before .before .before .before in
-    registers-yes (o .args .a) (m o) (room o) (st o) (c .before .before .wanted-precision .result) (c .before .register-bytes .result)
-    (c .before .before .wanted-precision .ensures (now (o .args .bytes))) (c .before .register-bytes .ensures .0) (c .if1 .left)
+    let o = c .before .before .before .before .before .before .before .before .before in
+    registers-yes (o .args .a) (m o) (room o) (st o) (c .before .before .before .wanted-registers .result) (c .before .before .before .wanted-registers .ensures (now (o .args .bytes))) (c .before .before .if1 .left)
+    (c .wanted-cells .result) (c .wanted-cells .ensures ∙ ap (wantedCells (o .args .a)) (ap length (c .before .sparse-data .ensures)))
 
-past-empty : (c : tie.Else2) → let o = c .before .before .before .before .before .before .before .before .before .before in
-    wanted o ≡ cellsIn (m o) (room o) (sum o (now (c .before .sparse-data .result)))
-past-empty c =
-    let o = c .before .before .before .before .before .before .before .before .before .before in
-    past-registers (c .before .before)
-    ∙ cells-some (o .args .a) (m o) (room o) (st o) (now (c .before .sparse-data .result)) (c .before .sparse-data .ensures) (c .if2 .left)
-
-wanted-precision-requires : tie.Need-wanted-precision-requires
-wanted-precision-requires c κs = search needs
-
-register-bytes-requires : tie.Need-register-bytes-requires
-register-bytes-requires c κs =
-    let o = c .before .before .before .before .before .before in
-    subst (λ (n : ℕ). n ≤ 24) (sym (c .wanted-precision .ensures (now (o .args .bytes)))) (wanted-high (o .args .a) (m o) (st o) (o .pre))
+wanted-registers-requires : tie.Need-wanted-registers-requires
+wanted-registers-requires c κs = let o = c .before .before .before .before .before in wanted-high (o .args .a) (m o) (now (o .args .bytes)) (o .args .f) (o .pre)
 
 returns : tie.Need-returns
 returns c =
-    let o = c .before .before .before .before .before .before .before .before in
-    registers-no (o .args .a) (m o) (room o) (st o) (c .before .before .wanted-precision .result) (c .before .register-bytes .result)
-    (c .before .before .wanted-precision .ensures (now (o .args .bytes))) (c .before .register-bytes .ensures .0) (c .if1 .taken)
+    let o = c .before .before .before .before .before .before .before in
+    registers-no (o .args .a) (m o) (room o) (st o) (c .before .wanted-registers .result) (c .before .wanted-registers .ensures (now (o .args .bytes))) (c .if1 .taken)
 
 sparse-data-requires : tie.Need-sparse-data-requires
 sparse-data-requires c κs = search needs
 
+wanted-cells-requires : tie.Need-wanted-cells-requires
+wanted-cells-requires c κs =
+    let o = c .before .before .before .before .before .before .before .before in
+    subst (λ (n : ℕ). o .args .a .«sparse_len» + o .args .a .«pending_len» + n < 2 ^ 64) (sym (ap length (c .sparse-data .ensures))) (wanted-small (o .args .a) (m o) (st o) (o .pre))
+
 returns-2 : tie.Need-returns-2
-returns-2 c =
-    let o = c .before .before .before .before .before .before .before .before .before .before in
-    sym (past-registers (c .before .before)
-    ∙ cells-none (o .args .a) (m o) (room o) (st o) (now (c .before .sparse-data .result)) (c .before .sparse-data .ensures) (c .if2 .taken))
-
-least-requires : tie.Need-least-requires
-least-requires c κs = search needs
-
-least-requires-2 : tie.Need-least-requires-2
-least-requires-2 c κs = search needs
-
-takes-requires : tie.Need-takes-requires
-takes-requires c κs = search needs
+returns-2 c = sym (past-registers (c .before) ∙ both-no _ (both-no _ (lt-leb _ _ (c .if2 .taken))))
 
 returns-3 : tie.Need-returns-3
-returns-3 c =
-    let o = c .before .before .before .before .before .before .before .before .before .before .before .before .before in
-    c .takes .ensures
-    ∙ cells-least (m o) (room o) (sum o (now (c .before .before .before .before .sparse-data .result))) (c .before .before .least .result) (c .before .least2 .result) (c .before .before .least .ensures) (c .before .least2 .ensures)
-    ∙ sym (past-empty (c .before .before .before))
+returns-3 c = sym (past-registers (c .before .before) ∙ both-no _ (both-yes _ (le-leb _ _ (c .before .if2 .left)) ∙ lt-leb _ _ (c .if3 .taken)))
+
+returns-4 : tie.Need-returns-4
+returns-4 c = sym (past-registers (c .before .before) ∙ both-yes _ (both (le-leb _ _ (c .before .if2 .left)) (le-leb _ _ (c .if3 .left))))
 
 pub has-room-spec : {M : Type 1} → statement M
 has-room-spec =
     tie.close
     (tie.spec
-    wanted-precision-requires
-    register-bytes-requires
+    wanted-registers-requires
     returns
     sparse-data-requires
+    wanted-cells-requires
     returns-2
-    least-requires
-    least-requires-2
-    takes-requires
-    returns-3)
+    returns-3
+    returns-4)

@@ -4,17 +4,17 @@ use borrow.Author.Needs.{needs}
 use Rattle.lists.proofs.values.Sparse.new.Statement.{statement}
 use Rattle.lists.proofs.values.Sparse.new.Tie as tie
 
-add-larger : tie.Need-add-larger
-add-larger c = search needs
+add-max-u32 : tie.Need-add-max-u32
+add-max-u32 c = search needs
 
-larger-requires : tie.Need-larger-requires
-larger-requires c κs = search needs
+max-u32-requires : tie.Need-max-u32-requires
+max-u32-requires c κs = search needs
 
 shl-t4 : tie.Need-shl-t4
 shl-t4 c = search needs
 
 returns : tie.Need-returns
-returns c = let o = c .before in new-post (o .args .normal-precision) (o .args .sparse-precision) (c .larger .result) (o .pre) (c .larger .ensures)
+returns c = let o = c .before in new-post (o .args .normal-precision) (o .args .sparse-precision) (c .max-u32 .result) (o .pre) (c .max-u32 .ensures)
 
 pub new-spec : {M : Type 1} → statement M
-new-spec = tie.close (tie.spec add-larger larger-requires shl-t4 returns)
+new-spec = tie.close (tie.spec add-max-u32 max-u32-requires shl-t4 returns)
