@@ -17,12 +17,14 @@ use Rattle.lists.proofs.RankLaws.{lowered-length, registers-larger, registers-t
 use Rattle.rollup.specs.declared.accumulator.Accumulator.{Accumulator}
 use Rattle.rollup.specs.declared.adding.Added.{Added}
 use Rattle.rollup.specs.Accumulator.{Mem, fresh}
-use Rattle.rollup.specs.Header.{maskOf}
-use Rattle.rollup.specs.Adding.{isStarted, Shows}
+use Rattle.rollup.specs.Header.{dataOf, maskOf}
+use Rattle.rollup.specs.Adding.{stateNumbers, isStarted, Shows}
+use Rattle.rollup.specs.Accepting.{TakePre}
 use Rattle.rollup.specs.Calls.{Call, added, wrote, moved, Moved, Steps, begun, adding, writing, moving, Run, accepted, stateIn, valuesIn, states, registersIn, over, smallestPrecision, smallestSparsePrecision, commonBits, largestRegisters, rollupRegisters, Answered, NoZeroRank, Agrees, DemandThree, OrderFree}
 use Rattle.rollup.specs.Taking.{signedMin, unchanged}
+use Rattle.rollup.proofs.TakeLaws.{ready-takes}
 use Rattle.rollup.proofs.ViewLaws.{IsRefused, IsAccepted, add-view, run-fits, sparse-small}
-use Rattle.rollup.proofs.AgreementLaws.{lowered-here, Took, same-registers, moved-registers, in-length, first-took, more-took}
+use Rattle.rollup.proofs.AgreementLaws.{lowered-here, Took, same-registers, moved-registers, taken-length, first-took, more-took}
 use Rattle.rollup.proofs.FoldLaws.{over-one, over-more, over-through, over-set, Any, min-joins, and-joins, Small, signed-joins, larger-joins}
 
 -- ---- one more state
@@ -52,7 +54,7 @@ at q st = lowered (st .hll .precision - q) q (registersIn st)
 lower-all : (q q′ : ℕ) → q′ ≤ q → (st : State) (sts : List State) → ((s : State) → List·Memᴰ s (st ∷ sts) → q ≤ s .hll .precision)
     → lowered (q - q′) q′ (over [] larger (at q) (st ∷ sts)) ≡ over [] larger (at q′) (st ∷ sts)
 lower-all q q′ h st sts low =
-    over-through (λ (l : List ℕ). length l ≡ 2 ^ q) [] larger (at q) [] larger (at q′) (lowered (q - q′) q′) (larger-joins q .closed)
+    over-through (λ (l : List ℕ). length l ≡ 2 ^ q) [] larger (at q) (larger-joins q .closed) [] larger (at q′) (lowered (q - q′) q′)
     (λ (x y : List ℕ) (f : length x ≡ 2 ^ q) (g : length y ≡ 2 ^ q). registers-larger (q - q′) q′ x y (f ∙ sym g)) st sts
     (λ (s : State) (i : List·Memᴰ s (st ∷ sts)). lowered-length (s .hll .precision - q) q (registersIn s))
     (λ (s : State) (i : List·Memᴰ s (st ∷ sts)).
@@ -121,10 +123,16 @@ module _ (room : ℕ) (bytes : List ℕ) (a : Accumulator) (m : Mem) (r : Added)
   abbrev p : ℕ
   p = st .hll .precision
 
+  abbrev vs : List ℕ
+  vs = valuesIn st
+
+  taken : TakePre a m room (stateNumbers st vs) (dataOf st) vs
+  taken = ready-takes (x .ready)
+
   grows : (sts : List State) → Ranked (st ∷ sts) st → Stands sts a m → Stands (st ∷ sts) (r .head) n
-  unfolding largestRegisters
+  unfolding largestRegisters registersIn
   grows [] pos e =
-      let t = first-took a m room st (x .ready) (r .head) n (ap (λ (h : Accumulator). h .form) e) (x .shows) in
+      let t = first-took a m room (stateNumbers st vs) (dataOf st) vs taken (r .head) n (ap (λ (h : Accumulator). h .form) e) (x .shows) in
       let one = over-one 0 min (λ (s : State). s .hll .precision) st in
       record {
         started = t .started;
@@ -135,7 +143,7 @@ module _ (room : ℕ) (bytes : List ℕ) (a : Accumulator) (m : Mem) (r : Added)
             t .registers
             ∙ sym
             (over-one [] larger (at (smallestPrecision (st ∷ []))) st
-            ∙ lowered-here p (smallestPrecision (st ∷ [])) (registersIn st) one (in-length a m room st (x .ready)));
+            ∙ lowered-here p (smallestPrecision (st ∷ [])) (registersIn st) one (taken-length a m room (stateNumbers st vs) (dataOf st) vs taken));
       }
   grows (last ∷ sts) pos s =
       let q = smallestPrecision (last ∷ sts) in
@@ -143,7 +151,7 @@ module _ (room : ℕ) (bytes : List ℕ) (a : Accumulator) (m : Mem) (r : Added)
       let next : q′ ≡ min q p = over-more 0 min (λ (s : State). s .hll .precision) st last sts in
       let down : q′ ≤ q = (let h = min-le-left q p in omega arith) in
       let same : min (a .precision) p ≡ q′ = ap (λ (k : ℕ). min k p) (s .precision) ∙ sym next in
-      let t = more-took a m room st (x .ready) (r .head) n (s .started) (λ (h : min (a .precision) p < p). pos (subst (λ (k : ℕ). k < p) same h)) (x .shows) in
+      let t = more-took a m room (stateNumbers st vs) (dataOf st) vs taken (r .head) n (s .started) (λ (h : min (a .precision) p < p). pos (subst (λ (k : ℕ). k < p) same h)) (x .shows) in
       record {
         started = t .started;
         precision = t .precision ∙ same;

@@ -1,39 +1,37 @@
--- One call and what is compared by demand 3. A refusal and a write leave it as it was. An accepted state is one equation, whatever the roll-up's form:
--- the precision, the sparse precision and the mask become the smaller ones and the common bits, and the registers the larger of the roll-up's and the
--- state's, both lowered to the smaller precision.
+-- One call and what is compared by demand 3. A refusal and a write leave it as it was. What is taken in is one equation, whatever the roll-up's form:
+-- the precision, the sparse precision and the mask become the smaller ones and the common bits, and the registers the larger of the roll-up's and of
+-- those that come in, both lowered to the smaller precision.
 use Prim.Native.Nat.{ℕ, _+_, _-_, _^_, _<_, _≤_, max, min}
 use mathlib.Core.Path.{_≡_, refl, sym, ap, ap₂, _∙_, subst}
-use mathlib.Core.Bool.{Bool, true, false, cond, not}
+use mathlib.Core.Bool.{Bool, true, false, cond}
 use mathlib.Core.Logic.{⊎-elim}
 use mathlib.Core.List.{List, [], _++_, append-assoc, append-nil, List·Memᴰ, List·Permᴰ}
 use native.Mathlib.Nat.{min-le-right, min-eq-left, le-of-eq}
 use native.Mathlib.Omega.{arith}
-use lib.Dec.{ltb, eqb}
-use lib.ListN.{length, take, replicate}
-use borrow.Author.Tests.{eqb-true, not-false}
-use Rattle.wire.specs.State.{State}
+use lib.Dec.{ltb}
+use lib.ListN.{length, replicate}
 use Rattle.wire.proofs.BoolLaws.{either}
 use Rattle.wire.proofs.VarintLaws.{side}
 use Rattle.lists.specs.Values.{Pair, rank}
 use Rattle.lists.specs.Lists.{allValid, written, merged}
-use Rattle.lists.specs.Registers.{registersOf, withRegisters, zeros, rankAt, raisedBy, raisedLower, larger, lowered}
+use Rattle.lists.specs.Registers.{registersOf, zeros, rankAt, raisedBy, raisedLower, larger, lowered}
 use Rattle.lists.proofs.MergeLaws.{valid-append, merged-valid}
-use Rattle.lists.proofs.DecodingLaws.{Accepted, accepted}
 use Rattle.lists.proofs.RankLaws.{rank-append, rank-perm, rank-merged, zeros-raised, raised-append, raised-larger, raised-lowered, lower-none, lower-larger, larger-length, lowered-length, registers-same, valid-inside, valid-inside-lower, row-raised, row-same}
 use Rattle.lists.proofs.RegisterLaws.{of-with, of-front}
 use Rattle.rollup.specs.declared.accumulator.Form.{Form}
 use Rattle.rollup.specs.declared.accumulator.Form.the-variants.{Unstarted, Sparse, Dense}
 use Rattle.rollup.specs.declared.accumulator.Accumulator.{Accumulator}
+use Rattle.rollup.specs.declared.incoming.Incoming.{Incoming}
 use Rattle.rollup.specs.Accumulator.{Mem, keptOf, waitingOf, limit}
-use Rattle.rollup.specs.Header.{dataOf, listOf, isEmpty, maskOf}
-use Rattle.rollup.specs.Adding.{acceptedAfter, isStarted, Ready, Shows}
-use Rattle.rollup.specs.Calls.{Moved, valuesIn, listRegisters, registersIn, rollupRegisters}
-use Rattle.rollup.specs.Taking.{After, unchanged, denseHead, commonMask, sumCount, startAfter, settle, waits, listAfter, sparseAfter, signedMin, signedKey, raisedTo, denseAfter, asList, asDense, asWaiting}
-use Rattle.rollup.proofs.FitLaws.{FitSparse, FitDense, fit-sparse, fit-dense}
-use Rattle.rollup.proofs.JudgeLaws.{JudgedFacts, judged-facts, none-is}
+use Rattle.rollup.specs.Header.{isEmpty}
+use Rattle.rollup.specs.Adding.{isStarted, Shows}
+use Rattle.rollup.specs.Accepting.{TakePre}
+use Rattle.rollup.specs.Calls.{Moved, listRegisters, takenRegisters, rollupRegisters}
+use Rattle.rollup.specs.Taking.{After, unchanged, commonMask, counted, startList, startDense, startAfter, asList, asDense, settle, waits, inserts, listPath, allMerged, asWaiting, listAfter, rowTaken, sparseAfter, signedKey, signedMin, raisedTo, denseAfter, takenAfter}
+use Rattle.rollup.proofs.FitLaws.{FitSparse, fit-sparse}
+use Rattle.rollup.proofs.JudgeLaws.{none-is}
 use Rattle.rollup.proofs.KeepsLaws.{no-data, some-data, registers-room, vs-valid, both-valid}
-use Rattle.rollup.proofs.SparseLaws.{countedBy, unlisted, fromData}
-use Rattle.rollup.proofs.WaysLaws.{startList, startDense, start-ways, settle-ways, list-ways, sparse-ways}
+use Rattle.rollup.proofs.WaysLaws.{start-ways, settle-ways, list-ways, sparse-ways}
 
 -- ---- the registers of a list
 
@@ -165,55 +163,42 @@ signed-same x y e = go (ltb (signedKey y) (signedKey x))
     go true = e
     go false = refl
 
--- ---- an accepted state
+-- ---- what is taken in
 
-module _ (a : Accumulator) (m : Mem) (room : ℕ) (st : State) (ready : Ready a m room st (valuesIn st)) where
-  abbrev sp : ℕ
-  sp = st .hll .precision
+module _ (a : Accumulator) (m : Mem) (room : ℕ) (x : Incoming) (row vs : List ℕ) (pre : TakePre a m room x row vs) where
+  abbrev p : ℕ
+  p = x .precision
 
-  abbrev ss : ℕ
-  ss = st .hll .sparsePrecision
-
-  abbrev vs : List ℕ
-  vs = valuesIn st
-
-  facts : JudgedFacts a st
-  facts = judged-facts a st (ready .judged)
-
-  list-in : Accepted sp ss (listOf st) vs []
-  list-in = accepted sp ss (listOf st) (ready .listed)
+  abbrev s : ℕ
+  s = x .«sparse_precision»
 
   -- Its registers: 2^p of them.
-  in-data : isEmpty (dataOf st) ≡ false → registersIn st ≡ dataOf st
-  unfolding registersIn
-  in-data e = ap (λ (b : Bool). cond b (listRegisters sp ss vs) (dataOf st)) e
+  abbrev regs : List ℕ
+  regs = takenRegisters x row vs
 
-  in-list : isEmpty (dataOf st) ≡ true → registersIn st ≡ listRegisters sp ss vs
-  unfolding registersIn
-  in-list e = ap (λ (b : Bool). cond b (listRegisters sp ss vs) (dataOf st)) e
+  in-row : isEmpty row ≡ false → regs ≡ row
+  in-row e = ap (λ (b : Bool). cond b (listRegisters p s vs) row) e
 
-  state-pair : isEmpty (dataOf st) ≡ true → Pair sp ss
-  state-pair e = facts .pair (no-data (dataOf st) e)
+  in-list : isEmpty row ≡ true → regs ≡ listRegisters p s vs
+  in-list e = ap (λ (b : Bool). cond b (listRegisters p s vs) row) e
 
-  pub in-length : length (registersIn st) ≡ 2 ^ sp
-  unfolding registersIn
-  in-length =
-      either (λ (l : List ℕ). length l ≡ 2 ^ sp) (isEmpty (dataOf st)) (listRegisters sp ss vs) (dataOf st)
-      (λ (e : isEmpty (dataOf st) ≡ true). list-length sp ss (state-pair e) vs (list-in .all))
-      (λ (e : isEmpty (dataOf st) ≡ false). facts .size (some-data (dataOf st) e))
+  pub taken-length : length (takenRegisters x row vs) ≡ 2 ^ x .precision
+  taken-length =
+      either (λ (l : List ℕ). length l ≡ 2 ^ p) (isEmpty row) (listRegisters p s vs) row
+      (λ (e : isEmpty row ≡ true). list-length p s (pre .pair (no-data row e)) vs (pre .all))
+      (λ (e : isEmpty row ≡ false). pre .size (some-data row e))
 
   module _ (r : Accumulator) (n : Mem) where
     -- ---- the first
 
-    start-took : a .form ≡ Unstarted → Shows (startAfter m st vs) r n → Took sp ss (maskOf (st .valueType)) (registersIn st) r n
+    start-took : a .form ≡ Unstarted → Shows (startAfter m x row vs) r n → Took p s (x .mask) regs r n
     start-took f =
-        let mask = maskOf (st .valueType) in
-        start-ways (λ (x : After). Shows x r n → Took sp ss mask (registersIn st) r n) m st vs
-        (λ (e : isEmpty (dataOf st) ≡ true) (sh : Shows (startList m st vs) r n).
-        took-list (startList m st vs) r n (registersIn st) sh refl (ap (listRegisters sp ss) (append-nil vs) ∙ sym (in-list e)))
-        (λ (e : isEmpty (dataOf st) ≡ false) (sh : Shows (startDense m st) r n).
-        took-dense (startDense m st) r n (registersIn st) sh refl
-        (of-with sp (m .registers) (registers-room a m room st vs ready Unstarted f) (dataOf st) (facts .size (some-data (dataOf st) e)) ∙ sym (in-data e)))
+        start-ways (λ (y : After). Shows y r n → Took p s (x .mask) regs r n) m x row vs
+        (λ (e : isEmpty row ≡ true) (sh : Shows (startList m x vs) r n).
+        took-list (startList m x vs) r n regs sh refl (ap (listRegisters p s) (append-nil vs) ∙ sym (in-list e)))
+        (λ (e : isEmpty row ≡ false) (sh : Shows (startDense m x row) r n).
+        took-dense (startDense m x row) r n regs sh refl
+        (of-with p (m .registers) (registers-room a m room x row vs pre Unstarted f) row (pre .size (some-data row e)) ∙ sym (in-row e)))
 
     -- ---- one more, at a list roll-up: precisions are the same, so nothing is lowered
 
@@ -227,106 +212,92 @@ module _ (a : Accumulator) (m : Mem) (room : ℕ) (st : State) (ready : Ready a 
       abbrev own : List ℕ
       own = keptOf a m ++ waitingOf a m
 
-      -- The larger of its registers and the state's.
+      -- The larger of its registers and of those that come in.
       abbrev joint : List ℕ
-      joint = larger (listRegisters ap′ as′ own) (registersIn st)
+      joint = larger (listRegisters ap′ as′ own) regs
 
-      abbrev Joined : Type 0
-      Joined = Took ap′ as′ (commonMask a st) joint r n
+      abbrev Joined : After → Type 0
+      Joined y = Shows y r n → Took ap′ as′ (commonMask a (x .mask)) joint r n
 
       fit-s : FitSparse a m
-      fit-s = fit-sparse a m (ready .fit) sparse
+      fit-s = fit-sparse a m (pre .fit) sparse
 
       own-valid : allValid ap′ as′ own ≡ true
-      own-valid = both-valid a m room st vs ready sparse
+      own-valid = both-valid a m room x row vs pre sparse
 
       new-valid : allValid ap′ as′ vs ≡ true
-      new-valid = vs-valid a m room st vs ready sparse
+      new-valid = vs-valid a m room x row vs pre sparse
 
-      -- A list's values come to those that are there.
-      with-values : isEmpty (dataOf st) ≡ true → listRegisters ap′ as′ (own ++ vs) ≡ joint
+      -- Values come to those that are there.
+      with-values : isEmpty row ≡ true → listRegisters ap′ as′ (own ++ vs) ≡ joint
       with-values e =
           list-append ap′ as′ (fit-s .pair) own vs own-valid new-valid
           ∙ ap (larger (listRegisters ap′ as′ own))
-          (sym (in-list e ∙ ap₂ (λ (p s : ℕ). listRegisters p s vs) (facts .same-normal sparse) (facts .same-sparse sparse)))
+          (sym (in-list e ∙ ap₂ (λ (p s : ℕ). listRegisters p s vs) (pre .same-normal sparse) (pre .same-sparse sparse)))
 
-      settle-took : (l : List ℕ) (bytes : ℕ) → allValid ap′ as′ l ≡ true → listRegisters ap′ as′ l ≡ joint → Shows (settle a m st l bytes) r n → Joined
+      settle-took : (l : List ℕ) (bytes : ℕ) → allValid ap′ as′ l ≡ true → listRegisters ap′ as′ l ≡ joint → Joined (settle (counted a x) (m .registers) l bytes)
       settle-took l bytes ok g =
-          let asList′ = asList (countedBy a m st) (m .registers) l bytes in
-          let asDense′ = asDense (countedBy a m st) (m .registers) l in
-          settle-ways (λ (x : After). Shows x r n → Joined) m st a l bytes
-          (λ (e : ltb bytes (limit ap′) ≡ true) (sh : Shows asList′ r n).
-          took-list asList′ r n joint sh refl (ap (listRegisters ap′ as′) (append-nil l) ∙ g))
-          (λ (e : ltb bytes (limit ap′) ≡ false) (sh : Shows asDense′ r n).
-          took-dense asDense′ r n joint sh refl
-          (of-with ap′ (m .registers) (registers-room a m room st vs ready Sparse sparse) (raisedBy ap′ as′ (zeros ap′) l) (zeros-raised ap′ as′ l)
+          let h = counted a x in
+          settle-ways Joined h (m .registers) l bytes
+          (λ (e : ltb bytes (limit ap′) ≡ true) (sh : Shows (asList h (m .registers) l bytes) r n).
+          took-list (asList h (m .registers) l bytes) r n joint sh refl (ap (listRegisters ap′ as′) (append-nil l) ∙ g))
+          (λ (e : ltb bytes (limit ap′) ≡ false) (sh : Shows (asDense h (m .registers) l) r n).
+          took-dense (asDense h (m .registers) l) r n joint sh refl
+          (of-with ap′ (m .registers) (registers-room a m room x row vs pre Sparse sparse) (raisedBy ap′ as′ (zeros ap′) l) (zeros-raised ap′ as′ l)
           ∙ sym (list-row ap′ as′ (fit-s .pair) l ok)
           ∙ g))
 
-      -- Values merged into those kept, where they and those kept are all that there is.
-      merge-took : (l : List ℕ) (bytes : ℕ) → isEmpty (dataOf st) ≡ true → allValid ap′ as′ l ≡ true → keptOf a m ++ l ≡ own ++ vs
-          → Shows (settle a m st (merged ap′ as′ (keptOf a m) l) bytes) r n → Joined
-      merge-took l bytes e ok g =
-          settle-took (merged ap′ as′ (keptOf a m) l) bytes (merged-valid ap′ as′ (keptOf a m) l (fit-s .kept-valid) ok)
-          (list-merged ap′ as′ (keptOf a m) l ∙ ap (listRegisters ap′ as′) g ∙ with-values e)
-
-      -- With nothing waiting.
-      kept-only : not (eqb (a .«pending_len») 0) ≡ false → keptOf a m ++ vs ≡ own ++ vs
-      kept-only e =
-          let z : a .«pending_len» ≡ 0 = eqb-true (a .«pending_len») 0 (not-false (eqb (a .«pending_len») 0) e) in
-          ap (λ (l : List ℕ). l ++ vs) (sym (append-nil (keptOf a m)))
-          ∙ ap (λ (k : ℕ). (keptOf a m ++ take k (m .pending)) ++ vs) (sym z)
-
-      list-took : isEmpty (dataOf st) ≡ true → Shows (listAfter a m st vs) r n → Joined
+      -- Merged or not, the values kept, waiting and coming in are all that there is.
+      list-took : isEmpty row ≡ true → Joined (listAfter (listPath a (keptOf a m) x (length vs)) (counted a x) m vs)
       list-took e =
+          let h = counted a x in
           let kept = keptOf a m in
           let waiting = waitingOf a m in
-          let waited = asWaiting (countedBy a m st) m vs in
-          let one : kept ++ (waiting ++ vs) ≡ own ++ vs = sym (append-assoc kept waiting vs) in
-          list-ways (λ (x : After). Shows x r n → Joined) m st a vs
-          (λ (f : waits a (length vs) ≡ true) (sh : Shows waited r n).
-          took-list waited r n joint sh refl (ap (listRegisters ap′ as′) one ∙ with-values e))
-          (merge-took (waiting ++ vs) (written (merged ap′ as′ kept (waiting ++ vs))) e
-          (valid-append ap′ as′ waiting vs (fit-s .waiting-valid) new-valid) one)
-          (λ (g : not (eqb (a .«pending_len») 0) ≡ false).
-          merge-took vs (a .«sparse_bytes» + written (merged ap′ as′ kept vs) - written kept) e new-valid (kept-only g))
-          (λ (g : not (eqb (a .«pending_len») 0) ≡ false). merge-took vs (written (merged ap′ as′ kept vs)) e new-valid (kept-only g))
+          let one : listRegisters ap′ as′ (kept ++ (waiting ++ vs)) ≡ joint =
+          ap (listRegisters ap′ as′) (sym (append-assoc kept waiting vs)) ∙ with-values e in
+          let merge : (bytes : ℕ) → Joined (settle h (m .registers) (allMerged h m vs) bytes) =
+          λ (bytes : ℕ).
+          settle-took (allMerged h m vs) bytes
+          (merged-valid ap′ as′ kept (waiting ++ vs) (fit-s .kept-valid) (valid-append ap′ as′ waiting vs (fit-s .waiting-valid) new-valid))
+          (list-merged ap′ as′ kept (waiting ++ vs) ∙ one) in
+          list-ways Joined h m vs a x refl
+          (λ (z : length vs ≡ 0) (sh : Shows (unchanged h m) r n).
+          took-list (unchanged h m) r n joint sh sparse
+          (ap (listRegisters ap′ as′) (sym (append-nil own) ∙ ap (λ (l : List ℕ). own ++ l) (sym (none-is vs z))) ∙ with-values e))
+          (λ (w : waits a x (length vs) ≡ true) (sh : Shows (asWaiting h m vs) r n). took-list (asWaiting h m vs) r n joint sh refl one)
+          (merge (written (allMerged h m vs)))
+          (λ (z : a .«pending_len» ≡ 0) (i : inserts a kept (length vs) ≡ true). merge (h .«sparse_bytes» + written (allMerged h m vs) - written kept))
 
-      sparse-joined : Shows (sparseAfter a m st vs) r n → Joined
+      sparse-joined : Joined (sparseAfter a m x row vs)
       sparse-joined =
-          sparse-ways (λ (x : After). Shows x r n → Joined) m st a vs
-          (λ (e : isEmpty (dataOf st) ≡ true) (f : isEmpty (listOf st) ≡ true) (sh : Shows (unlisted a m st vs) r n).
-          let none : vs ≡ [] = none-is vs (let z : length vs ≡ 0 = omega (arith, list-in .fewer, no-data (listOf st) f) in z) in
-          took-list (unlisted a m st vs) r n joint sh refl
-          (ap (listRegisters ap′ as′) (sym (append-nil own) ∙ ap (λ (l : List ℕ). own ++ l) (sym none)) ∙ with-values e))
-          list-took
-          (λ (e : isEmpty (dataOf st) ≡ false) (sh : Shows (fromData a m st vs) r n).
-          let row = raisedBy ap′ as′ (zeros ap′) own in
-          took-dense (fromData a m st vs) r n joint sh refl
-          (of-with ap′ (m .registers) (registers-room a m room st vs ready Sparse sparse) (larger row (dataOf st))
-          (larger-length row (dataOf st) ∙ zeros-raised ap′ as′ own)
-          ∙ ap₂ larger (sym (list-row ap′ as′ (fit-s .pair) own own-valid)) (sym (in-data e))))
+          sparse-ways Joined a m x row vs list-took
+          (λ (e : isEmpty row ≡ false) (sh : Shows (rowTaken (counted a x) m row) r n).
+          let raised = raisedBy ap′ as′ (zeros ap′) own in
+          took-dense (rowTaken (counted a x) m row) r n joint sh refl
+          (of-with ap′ (m .registers) (registers-room a m room x row vs pre Sparse sparse) (larger raised row)
+          (larger-length raised row ∙ zeros-raised ap′ as′ own)
+          ∙ ap₂ larger (sym (list-row ap′ as′ (fit-s .pair) own own-valid)) (sym (in-row e))))
 
     -- ---- one more, whatever the form
 
     abbrev least : ℕ
-    least = min (a .precision) sp
+    least = min (a .precision) p
 
     abbrev largerOf : List ℕ → List ℕ
-    largerOf regs = larger (lowered (a .precision - least) least regs) (lowered (sp - least) least (registersIn st))
+    largerOf l = larger (lowered (a .precision - least) least l) (lowered (p - least) least regs)
 
     abbrev More : Type 0
-    More = Took least (signedMin (a .«sparse_precision») ss) (commonMask a st) (largerOf (rollupRegisters (a .form) a m)) r n
+    More = Took least (signedMin (a .«sparse_precision») s) (commonMask a (x .mask)) (largerOf (rollupRegisters (a .form) a m)) r n
 
-    sparse-took : a .form ≡ Sparse → Shows (sparseAfter a m st vs) r n → More
+    sparse-took : a .form ≡ Sparse → Shows (sparseAfter a m x row vs) r n → More
     unfolding rollupRegisters
     sparse-took f sh =
         let t = sparse-joined f sh in
-        let same : least ≡ a .precision = min-eq-left (le-of-eq (sym (facts .same-normal f))) in
+        let same : least ≡ a .precision = min-eq-left (le-of-eq (sym (pre .same-normal f))) in
         record {
           started = t .started;
           precision = t .precision ∙ sym same;
-          sparse-precision = t .sparse-precision ∙ sym (signed-same (a .«sparse_precision») ss (facts .same-sparse f));
+          sparse-precision = t .sparse-precision ∙ sym (signed-same (a .«sparse_precision») s (pre .same-sparse f));
           mask = t .mask;
           registers =
               t .registers
@@ -335,78 +306,66 @@ module _ (a : Accumulator) (m : Mem) (room : ℕ) (st : State) (ready : Ready a 
               ∙ ap₂ larger
               (lowered-here (a .precision) least (listRegisters (a .precision) (a .«sparse_precision») (own f)) same
               (list-length (a .precision) (a .«sparse_precision») (fit-s f .pair) (own f) (own-valid f)))
-              (lowered-here sp least (registersIn st) (same ∙ sym (facts .same-normal f)) in-length));
+              (lowered-here p least regs (same ∙ sym (pre .same-normal f)) taken-length));
         }
 
     -- ---- a dense roll-up
 
-    module _ (dense : a .form ≡ Dense) (pos : least < sp → (v : ℕ) → List·Memᴰ v vs → 0 < rank sp ss v) where
-      fit-d : FitDense a m
-      fit-d = fit-dense a m (ready .fit) dense
-
+    module _ (dense : a .form ≡ Dense) (pos : least < p → (v : ℕ) → List·Memᴰ v vs → 0 < rank p s v) where
       abbrev low : List ℕ
       low = lowered (a .precision - least) least (registersOf (a .precision) (m .registers))
 
       low-long : length low ≡ 2 ^ least
       low-long = lowered-length (a .precision - least) least (registersOf (a .precision) (m .registers))
 
-      split : sp ≡ least + (sp - least)
-      split = omega (arith, min-le-right (a .precision) sp)
+      split : p ≡ least + (p - least)
+      split = omega (arith, min-le-right (a .precision) p)
 
-      -- A list's values, each lowered, raise as its registers lowered do. Here no value may have rank 0, unless nothing is lowered.
-      by-list : isEmpty (dataOf st) ≡ true → raisedLower sp ss (sp - least) low vs ≡ larger low (lowered (sp - least) least (registersIn st))
+      -- Values, each lowered, raise as their registers lowered do. Here no value may have rank 0, unless nothing is lowered.
+      by-list : isEmpty row ≡ true → raisedLower p s (p - least) low vs ≡ larger low (lowered (p - least) least regs)
       by-list e =
-          let pair = state-pair e in
-          let inside = valid-inside sp ss vs pair (list-in .all) in
-          let rows : registersIn st ≡ raisedBy sp ss (zeros sp) vs = in-list e ∙ list-row sp ss pair vs (list-in .all) in
+          let pair = pre .pair (no-data row e) in
+          let inside = valid-inside p s vs pair (pre .all) in
+          let rows : regs ≡ raisedBy p s (zeros p) vs = in-list e ∙ list-row p s pair vs (pre .all) in
           ⊎-elim
-          (λ (h : least < sp).
-          lower-larger sp ss (sp - least) least low vs low-long (valid-inside-lower sp ss (sp - least) least vs split pair (list-in .all))
+          (λ (h : least < p).
+          lower-larger p s (p - least) least low vs low-long (valid-inside-lower p s (p - least) least vs split pair (pre .all))
           ∙ ap (larger low)
-          (sym (raised-lowered sp ss (sp - least) least vs split inside (pos h)) ∙ ap (lowered (sp - least) least) (sym rows)))
-          (λ (h : sp ≤ least).
-          let same : least ≡ sp = omega (arith, min-le-right (a .precision) sp) in
-          ap (λ (d : ℕ). raisedLower sp ss d low vs) (let z : sp - least ≡ 0 = omega arith in z)
-          ∙ lower-none sp ss low vs
-          ∙ raised-larger sp ss low vs (low-long ∙ ap (λ (k : ℕ). 2 ^ k) same) inside
-          ∙ ap (larger low) (sym (lowered-here sp least (registersIn st) same in-length ∙ rows))) (side least sp)
+          (sym (raised-lowered p s (p - least) least vs split inside (pos h)) ∙ ap (lowered (p - least) least) (sym rows)))
+          (λ (h : p ≤ least).
+          let same : least ≡ p = omega (arith, min-le-right (a .precision) p) in
+          ap (λ (d : ℕ). raisedLower p s d low vs) (let z : p - least ≡ 0 = omega arith in z)
+          ∙ lower-none p s low vs
+          ∙ raised-larger p s low vs (low-long ∙ ap (λ (k : ℕ). 2 ^ k) same) inside
+          ∙ ap (larger low) (sym (lowered-here p least regs same taken-length ∙ rows))) (side least p)
 
-      by-state : raisedByState least st vs low ≡ larger low (lowered (sp - least) least (registersIn st))
-      by-state =
-          either (λ (l : List ℕ). l ≡ larger low (lowered (sp - least) least (registersIn st))) (isEmpty (dataOf st))
-          (raisedLower sp ss (sp - least) low vs) (larger low (lowered (sp - least) least (dataOf st))) by-list
-          (λ (e : isEmpty (dataOf st) ≡ false). ap (λ (l : List ℕ). larger low (lowered (sp - least) least l)) (sym (in-data e)))
+      by-either : raisedTo least x row vs low ≡ larger low (lowered (p - least) least regs)
+      by-either =
+          either (λ (l : List ℕ). l ≡ larger low (lowered (p - least) least regs)) (isEmpty row) (raisedLower p s (p - least) low vs)
+          (larger low (lowered (p - least) least row)) by-list
+          (λ (e : isEmpty row ≡ false). ap (λ (l : List ℕ). larger low (lowered (p - least) least l)) (sym (in-row e)))
 
-      dense-took : Shows (denseAfter a m st vs) r n → More
+      dense-took : Shows (denseAfter a m x row vs) r n → More
       unfolding denseAfter rollupRegisters
       dense-took sh =
-          let p = a .precision in
-          let front = raisedByState least st vs low in
-          let x : After =
-          record {
-            head =
-                denseHead (commonMask a st) (a .«value_type») (sumCount a st) least (signedMin (a .«sparse_precision») ss) (a .«sparse_size»)
-                (a .«sparse_bytes»);
-            registers = withRegisters p (front ++ replicate (2 ^ p - 2 ^ least) 0) (m .registers);
-            kept = [];
-            waiting = [];
-          } in
-          took-dense x r n (largerOf (rollupRegisters (a .form) a m)) sh refl
-          (of-front least p front (replicate (2 ^ p - 2 ^ least) 0) (m .registers)
-          (ap length by-state ∙ larger-length low (lowered (sp - least) least (registersIn st)) ∙ low-long)
-          ∙ by-state
+          let front = raisedTo least x row vs low in
+          let freed = replicate {A = ℕ} (2 ^ a .precision - 2 ^ least) 0 in
+          took-dense (denseAfter a m x row vs) r n (largerOf (rollupRegisters (a .form) a m)) sh refl
+          (of-front least (a .precision) front freed (m .registers)
+          (ap length by-either ∙ larger-length low (lowered (p - least) least regs) ∙ low-long)
+          ∙ by-either
           ∙ ap largerOf (sym (ap (λ (g : Form). rollupRegisters g a m) dense)))
 
     -- ---- both
 
-    pub first-took : a .form ≡ Unstarted → Shows (acceptedAfter (a .form) a m st vs) r n → Took sp ss (maskOf (st .valueType)) (registersIn st) r n
-    first-took f sh = start-took f (subst (λ (g : Form). Shows (acceptedAfter g a m st vs) r n) f sh)
+    pub first-took : a .form ≡ Unstarted → Shows (takenAfter (a .form) a m x row vs) r n
+        → Took (x .precision) (x .«sparse_precision») (x .mask) (takenRegisters x row vs) r n
+    first-took f sh = start-took f (subst (λ (g : Form). Shows (takenAfter g a m x row vs) r n) f sh)
 
-    pub more-took : isStarted (a .form) ≡ true → (least < sp → (v : ℕ) → List·Memᴰ v vs → 0 < rank sp ss v) → Shows (acceptedAfter (a .form) a m st vs) r n
-        → More
-    more-took s pos = by-form (a .form) refl s
+    pub more-took : isStarted (a .form) ≡ true → (least < p → (v : ℕ) → List·Memᴰ v vs → 0 < rank p s v) → Shows (takenAfter (a .form) a m x row vs) r n → More
+    more-took t pos = by-form (a .form) refl t
       where
-        by-form : (f : Form) → a .form ≡ f → isStarted f ≡ true → Shows (acceptedAfter f a m st vs) r n → More
+        by-form : (f : Form) → a .form ≡ f → isStarted f ≡ true → Shows (takenAfter f a m x row vs) r n → More
         by-form Unstarted e t = absurd (let z : _≡_ {A = ℕ} 0 1 = cc in omega arith)
         by-form Sparse e t = sparse-took e
         by-form Dense e t = dense-took e pos

@@ -1,5 +1,5 @@
--- One thing of all states, `over`: what holds of it whatever the operation is, and the four operations that are used.
--- The law `over-set`: with an operation that is associative, commutative and idempotent it depends on the set of the states alone.
+-- One thing of all, `over`: what holds of it whatever the operation is, and the four operations that are used.
+-- The law `over-set`: with an operation that is associative, commutative and idempotent it depends on the set of the things alone.
 use Prim.Native.Nat.{ℕ, _+_, _*_, _/_, _%_, _^_, _<_, min}
 use mathlib.Core.Path.{_≡_, refl, sym, ap, ap₂, _∙_}
 use mathlib.Core.Bool.{Bool, true, false, cond}
@@ -12,7 +12,6 @@ use lib.Bits.{bitAnd, and-step, and-comm, and-self}
 use lib.Dec.{ltb}
 use lib.ListN.{length}
 use borrow.Author.Tests.{ltb-true, ltb-false}
-use Rattle.wire.specs.State.{State}
 use Rattle.lists.specs.Registers.{larger}
 use Rattle.lists.proofs.RankLaws.{larger-length, larger-assoc, larger-comm, larger-same}
 use Rattle.rollup.specs.Calls.{over}
@@ -20,38 +19,35 @@ use Rattle.rollup.specs.Taking.{signedKey, signedMin}
 
 -- ---- one step, and a function of the whole
 
-module _ {A : Type 0} (none : A) (both : A → A → A) (of : State → A) where
-  pub over-one : (st : State) → over none both of (st ∷ []) ≡ of st
+module _ {A B : Type 0} (none : A) (both : A → A → A) (of : B → A) where
+  pub over-one : (x : B) → over none both of (x ∷ []) ≡ of x
   unfolding over
-  over-one st = refl
+  over-one x = refl
 
-  pub over-more : (st last : State) (sts : List State) → over none both of (st ∷ last ∷ sts) ≡ both (over none both of (last ∷ sts)) (of st)
+  pub over-more : (x y : B) (l : List B) → over none both of (x ∷ y ∷ l) ≡ both (over none both of (y ∷ l)) (of x)
   unfolding over
-  over-more st last sts = refl
+  over-more x y l = refl
 
--- What holds of each, and of two together, holds of the whole.
-pub over-good : {A : Type 0} (good : A → Type 0) (none : A) (both : A → A → A) (of : State → A)
-    → ((x y : A) → good x → good y → good (both x y)) → (st : State) (sts : List State) → ((s : State) → List·Memᴰ s (st ∷ sts) → good (of s))
-    → good (over none both of (st ∷ sts))
-unfolding over
-over-good good none both of closed st [] f = f st (List·Memᴰ·head refl)
-over-good good none both of closed st (last ∷ sts) f =
-    closed (over none both of (last ∷ sts)) (of st)
-    (over-good good none both of closed last sts (λ (s : State) (i : List·Memᴰ s (last ∷ sts)). f s (List·Memᴰ·tail i))) (f st (List·Memᴰ·head refl))
+module _ {A B : Type 0} (good : A → Type 0) (none : A) (both : A → A → A) (of : B → A) (closed : (x y : A) → good x → good y → good (both x y)) where
+  -- What holds of each, and of two together, holds of the whole.
+  pub over-good : (x : B) (l : List B) → ((s : B) → List·Memᴰ s (x ∷ l) → good (of s)) → good (over none both of (x ∷ l))
+  unfolding over
+  over-good x [] f = f x (List·Memᴰ·head refl)
+  over-good x (y ∷ l) f =
+      closed (over none both of (y ∷ l)) (of x) (over-good y l (λ (s : B) (i : List·Memᴰ s (y ∷ l)). f s (List·Memᴰ·tail i)))
+      (f x (List·Memᴰ·head refl))
 
--- A function that commutes with the operations goes through.
-pub over-through : {A B : Type 0} (good : A → Type 0) (none : A) (both : A → A → A) (of : State → A) (none′ : B) (both′ : B → B → B) (of′ : State → B) (f : A → B)
-    → ((x y : A) → good x → good y → good (both x y)) → ((x y : A) → good x → good y → f (both x y) ≡ both′ (f x) (f y))
-    → (st : State) (sts : List State) → ((s : State) → List·Memᴰ s (st ∷ sts) → good (of s)) → ((s : State) → List·Memᴰ s (st ∷ sts) → f (of s) ≡ of′ s)
-    → f (over none both of (st ∷ sts)) ≡ over none′ both′ of′ (st ∷ sts)
-unfolding over
-over-through good none both of none′ both′ of′ f closed commutes st [] g e = e st (List·Memᴰ·head refl)
-over-through good none both of none′ both′ of′ f closed commutes st (last ∷ sts) g e =
-    let g′ : (s : State) → List·Memᴰ s (last ∷ sts) → good (of s) = λ (s : State) (i : List·Memᴰ s (last ∷ sts)). g s (List·Memᴰ·tail i) in
-    commutes (over none both of (last ∷ sts)) (of st) (over-good good none both of closed last sts g′) (g st (List·Memᴰ·head refl))
-    ∙ ap₂ both′
-    (over-through good none both of none′ both′ of′ f closed commutes last sts g′
-    (λ (s : State) (i : List·Memᴰ s (last ∷ sts)). e s (List·Memᴰ·tail i))) (e st (List·Memᴰ·head refl))
+  -- A function that commutes with the operations goes through.
+  module _ {C : Type 0} (none′ : C) (both′ : C → C → C) (of′ : B → C) (f : A → C)
+      (commutes : (x y : A) → good x → good y → f (both x y) ≡ both′ (f x) (f y)) where
+    pub over-through : (x : B) (l : List B) → ((s : B) → List·Memᴰ s (x ∷ l) → good (of s)) → ((s : B) → List·Memᴰ s (x ∷ l) → f (of s) ≡ of′ s)
+        → f (over none both of (x ∷ l)) ≡ over none′ both′ of′ (x ∷ l)
+    unfolding over
+    over-through x [] g e = e x (List·Memᴰ·head refl)
+    over-through x (y ∷ l) g e =
+        let g′ : (s : B) → List·Memᴰ s (y ∷ l) → good (of s) = λ (s : B) (i : List·Memᴰ s (y ∷ l)). g s (List·Memᴰ·tail i) in
+        commutes (over none both of (y ∷ l)) (of x) (over-good y l g′) (g x (List·Memᴰ·head refl))
+        ∙ ap₂ both′ (over-through y l g′ (λ (s : B) (i : List·Memᴰ s (y ∷ l)). e s (List·Memᴰ·tail i))) (e x (List·Memᴰ·head refl))
 
 -- ---- the set alone
 
@@ -62,52 +58,52 @@ pub record Joins {A : Type 0} (good : A → Type 0) (both : A → A → A) : Typ
   pub comm : (x y : A) → good x → good y → both x y ≡ both y x
   pub same : (x : A) → good x → both x x ≡ x
 
-module _ {A : Type 0} (good : A → Type 0) (none : A) (both : A → A → A) (of : State → A) (joins : Joins good both) where
-  -- Each of the states is in the whole already.
-  absorbed : (st : State) (sts : List State) → ((s : State) → List·Memᴰ s (st ∷ sts) → good (of s)) → (s : State) → List·Memᴰ s (st ∷ sts)
-      → both (over none both of (st ∷ sts)) (of s) ≡ over none both of (st ∷ sts)
+module _ {A B : Type 0} (good : A → Type 0) (none : A) (both : A → A → A) (of : B → A) (joins : Joins good both) where
+  -- Each of them is in the whole already.
+  pub absorbed : (x : B) (l : List B) → ((s : B) → List·Memᴰ s (x ∷ l) → good (of s)) → (s : B) → List·Memᴰ s (x ∷ l)
+      → both (over none both of (x ∷ l)) (of s) ≡ over none both of (x ∷ l)
   unfolding over
-  absorbed st [] f s i =
-      ⊎-elim (λ (e : s ≡ st). ap (λ (x : State). both (of st) (of x)) e ∙ joins .same (of st) (f st (List·Memᴰ·head refl)))
+  absorbed x [] f s i =
+      ⊎-elim (λ (e : s ≡ x). ap (λ (y : B). both (of x) (of y)) e ∙ joins .same (of x) (f x (List·Memᴰ·head refl)))
       (λ (j : List·Memᴰ s []). absurd (List·Memᴰ·not-nil j)) (List·Memᴰ·cases-cons i)
-  absorbed st (last ∷ sts) f s i =
-      let whole = over none both of (last ∷ sts) in
-      let f′ : (s : State) → List·Memᴰ s (last ∷ sts) → good (of s) = λ (s : State) (j : List·Memᴰ s (last ∷ sts)). f s (List·Memᴰ·tail j) in
-      let w : good whole = over-good good none both of (joins .closed) last sts f′ in
-      let g : good (of st) = f st (List·Memᴰ·head refl) in
-      joins .assoc whole (of st) (of s) w g (f s i)
-      ∙ ⊎-elim (λ (e : s ≡ st). ap (λ (x : State). both whole (both (of st) (of x))) e ∙ ap (both whole) (joins .same (of st) g))
-      (λ (j : List·Memᴰ s (last ∷ sts)).
-      ap (both whole) (joins .comm (of st) (of s) g (f s i))
-      ∙ sym (joins .assoc whole (of s) (of st) w (f s i) g)
-      ∙ ap (λ (x : A). both x (of st)) (absorbed last sts f′ s j)) (List·Memᴰ·cases-cons i)
+  absorbed x (y ∷ l) f s i =
+      let whole = over none both of (y ∷ l) in
+      let f′ : (s : B) → List·Memᴰ s (y ∷ l) → good (of s) = λ (s : B) (j : List·Memᴰ s (y ∷ l)). f s (List·Memᴰ·tail j) in
+      let w : good whole = over-good good none both of (joins .closed) y l f′ in
+      let g : good (of x) = f x (List·Memᴰ·head refl) in
+      joins .assoc whole (of x) (of s) w g (f s i)
+      ∙ ⊎-elim (λ (e : s ≡ x). ap (λ (y : B). both whole (both (of x) (of y))) e ∙ ap (both whole) (joins .same (of x) g))
+      (λ (j : List·Memᴰ s (y ∷ l)).
+      ap (both whole) (joins .comm (of x) (of s) g (f s i))
+      ∙ sym (joins .assoc whole (of s) (of x) w (f s i) g)
+      ∙ ap (λ (v : A). both v (of x)) (absorbed y l f′ s j)) (List·Memᴰ·cases-cons i)
 
   -- And what has each of them in it has the whole in it.
-  absorbs : (z : A) → good z → (st : State) (sts : List State) → ((s : State) → List·Memᴰ s (st ∷ sts) → good (of s))
-      → ((s : State) → List·Memᴰ s (st ∷ sts) → both z (of s) ≡ z) → both z (over none both of (st ∷ sts)) ≡ z
+  pub absorbs : (z : A) → good z → (x : B) (l : List B) → ((s : B) → List·Memᴰ s (x ∷ l) → good (of s))
+      → ((s : B) → List·Memᴰ s (x ∷ l) → both z (of s) ≡ z) → both z (over none both of (x ∷ l)) ≡ z
   unfolding over
-  absorbs z h st [] f e = e st (List·Memᴰ·head refl)
-  absorbs z h st (last ∷ sts) f e =
-      let f′ : (s : State) → List·Memᴰ s (last ∷ sts) → good (of s) = λ (s : State) (j : List·Memᴰ s (last ∷ sts)). f s (List·Memᴰ·tail j) in
+  absorbs z h x [] f e = e x (List·Memᴰ·head refl)
+  absorbs z h x (y ∷ l) f e =
+      let f′ : (s : B) → List·Memᴰ s (y ∷ l) → good (of s) = λ (s : B) (j : List·Memᴰ s (y ∷ l)). f s (List·Memᴰ·tail j) in
       sym
-      (joins .assoc z (over none both of (last ∷ sts)) (of st) h (over-good good none both of (joins .closed) last sts f′) (f st (List·Memᴰ·head refl)))
-      ∙ ap (λ (x : A). both x (of st)) (absorbs z h last sts f′ (λ (s : State) (j : List·Memᴰ s (last ∷ sts)). e s (List·Memᴰ·tail j)))
-      ∙ e st (List·Memᴰ·head refl)
+      (joins .assoc z (over none both of (y ∷ l)) (of x) h (over-good good none both of (joins .closed) y l f′) (f x (List·Memᴰ·head refl)))
+      ∙ ap (λ (v : A). both v (of x)) (absorbs z h y l f′ (λ (s : B) (j : List·Memᴰ s (y ∷ l)). e s (List·Memᴰ·tail j)))
+      ∙ e x (List·Memᴰ·head refl)
 
-  pub over-set : (c d : List State) → ((s : State) → List·Memᴰ s c → List·Memᴰ s d) → ((s : State) → List·Memᴰ s d → List·Memᴰ s c)
-      → ((s : State) → List·Memᴰ s c → good (of s)) → over none both of c ≡ over none both of d
+  pub over-set : (c d : List B) → ((s : B) → List·Memᴰ s c → List·Memᴰ s d) → ((s : B) → List·Memᴰ s d → List·Memᴰ s c)
+      → ((s : B) → List·Memᴰ s c → good (of s)) → over none both of c ≡ over none both of d
   over-set [] [] there back f = refl
   over-set [] (t ∷ ts) there back f = absurd (List·Memᴰ·not-nil (back t (List·Memᴰ·head refl)))
   over-set (s ∷ ss) [] there back f = absurd (List·Memᴰ·not-nil (there s (List·Memᴰ·head refl)))
   over-set (s ∷ ss) (t ∷ ts) there back f =
       let x = over none both of (s ∷ ss) in
       let y = over none both of (t ∷ ts) in
-      let g : (u : State) → List·Memᴰ u (t ∷ ts) → good (of u) = λ (u : State) (i : List·Memᴰ u (t ∷ ts)). f u (back u i) in
+      let g : (u : B) → List·Memᴰ u (t ∷ ts) → good (of u) = λ (u : B) (i : List·Memᴰ u (t ∷ ts)). f u (back u i) in
       let gx : good x = over-good good none both of (joins .closed) s ss f in
       let gy : good y = over-good good none both of (joins .closed) t ts g in
-      sym (absorbs x gx t ts g (λ (u : State) (i : List·Memᴰ u (t ∷ ts)). absorbed s ss f u (back u i)))
+      sym (absorbs x gx t ts g (λ (u : B) (i : List·Memᴰ u (t ∷ ts)). absorbed s ss f u (back u i)))
       ∙ joins .comm x y gx gy
-      ∙ absorbs y gy s ss f (λ (u : State) (i : List·Memᴰ u (s ∷ ss)). absorbed t ts g u (there u i))
+      ∙ absorbs y gy s ss f (λ (u : B) (i : List·Memᴰ u (s ∷ ss)). absorbed t ts g u (there u i))
 
 -- ---- three operations on numbers
 

@@ -1,4 +1,5 @@
 -- The laws of the roll-up; `Agreement`, `WrittenRuns` and `CutLaws` have the theorems.
+pub mod StartLaws
 pub mod DenseLaws
 pub mod AddLaws
 pub mod FitLaws

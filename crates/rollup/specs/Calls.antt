@@ -14,11 +14,12 @@ use Rattle.lists.specs.Registers.{registersOf, rankAt, larger, tabulate, lowere
 use Rattle.rollup.specs.declared.accumulator.Form.{Form}
 use Rattle.rollup.specs.declared.accumulator.Form.the-variants.{Unstarted, Sparse, Dense}
 use Rattle.rollup.specs.declared.accumulator.Accumulator.{Accumulator}
+use Rattle.rollup.specs.declared.incoming.Incoming.{Incoming}
 use Rattle.rollup.specs.declared.adding.Added.{Added}
 use Rattle.rollup.specs.declared.writing.Written.{Written}
 use Rattle.rollup.specs.Accumulator.{Mem, keptOf, waitingOf, fits, fresh, HeadWidths}
 use Rattle.rollup.specs.Header.{dataOf, isEmpty, maskOf}
-use Rattle.rollup.specs.Adding.{listedIn, addOutcome, AddPost}
+use Rattle.rollup.specs.Adding.{stateNumbers, listedIn, addOutcome, AddPost}
 use Rattle.rollup.specs.Writing.{stateForm, writeOutcome, WritePost}
 use Rattle.rollup.specs.Taking.{signedMin}
 
@@ -81,15 +82,18 @@ states calls = map stateIn (accepted calls)
 unfoldable pub listRegisters : ℕ → ℕ → List ℕ → List ℕ
 listRegisters p s vs = tabulate (λ j. rankAt p s j vs) 0 (2 ^ p)
 
--- "Its registers are its data bytes if it has any, else per index the largest rank of its listed values."
-unfoldable pub registersIn : State → List ℕ
-registersIn st = cond (isEmpty (dataOf st)) (listRegisters (st .hll .precision) (st .hll .sparsePrecision) (valuesIn st)) (dataOf st)
+-- "Its registers are its data bytes if it has any, else per index the largest rank of its listed values": so of all that is taken in, with a row in the place of data.
+abbrev pub takenRegisters : Incoming → (row vs : List ℕ) → List ℕ
+takenRegisters x row vs = cond (isEmpty row) (listRegisters (x .precision) (x .«sparse_precision») vs) row
 
--- One thing of all states: of each state, two by two.
-unfoldable pub over : {A : Type 0} → A → (A → A → A) → (State → A) → List State → A
+unfoldable pub registersIn : State → List ℕ
+registersIn st = takenRegisters (stateNumbers st (valuesIn st)) (dataOf st) (valuesIn st)
+
+-- One thing of all, as of all states: of each, two by two.
+unfoldable pub over : {A B : Type 0} → A → (A → A → A) → (B → A) → List B → A
 over none both of [] = none
-over none both of (st ∷ []) = of st
-over none both of (st ∷ st′ ∷ sts) = both (over none both of (st′ ∷ sts)) (of st)
+over none both of (x ∷ []) = of x
+over none both of (x ∷ y ∷ l) = both (over none both of (y ∷ l)) (of x)
 
 -- "p and s are the smallest of the accepted states', s as a signed number; the mask is the bits common to the masks of their value types." With
 -- none accepted they are the fresh head's.

@@ -2,7 +2,7 @@
 use mathlib.Core.Path.{_≡_}
 use mathlib.Core.List.{List}
 use mathlib.Core.Bool.{true}
-use Prim.Native.Nat.{ℕ, _+_, _-_, _^_, _<_, _≤_, min}
+use Prim.Native.Nat.{ℕ, _+_, _^_, _<_, _≤_, min}
 use lib.ListN.{length}
 use Rattle.lists.specs.Values.{Pair}
 use Rattle.lists.specs.Lists.{allValid}
@@ -23,7 +23,7 @@ pub record LowerOwnPre (p : ℕ) (registers : List ℕ) : Type 0 where
 
 pub record LowerOwnPost (p other : ℕ) (before : List ℕ) (r : ℕ) (after : List ℕ) : Type 0 where
   pub smaller : r ≡ min p other
-  pub left : after ≡ withRegisters p (loweredInPlace p (p - min p other) (registersOf p before)) before
+  pub left : after ≡ withRegisters p (loweredInPlace p (min p other) (registersOf p before)) before
 
 -- ---- what comes in
 

@@ -1,16 +1,15 @@
--- The roll-up's registers are lowered first; those of the state raise them, and the freed ones stay zero.
+-- The roll-up's registers are lowered first; what comes in raises them, and the freed ones stay zero.
 use denote.Ref.{now}
-use Rattle.wire.specs.State.{stateOf}
-use Rattle.rollup.proofs.DenseLaws.{dense-own, dense-raise, dense-post}
+use Rattle.rollup.proofs.DenseLaws.{dense-raise, dense-post}
 use borrow.Author.Needs.{needs}
 use Rattle.rollup.proofs.dense_paths.accept_dense.Statement.{statement}
 use Rattle.rollup.proofs.dense_paths.accept_dense.Tie as tie
 
 lower-own-requires : tie.Need-lower-own-requires
-lower-own-requires c κs = let o = c .before .before .before .before .before in dense-own (o .args .a) (now (o .args .registers)) (stateOf (now (o .args .bytes)) (o .args .f)) (now (o .args .values)) (o .pre)
+lower-own-requires c κs = c .before .before .before .before .pre .own
 
-raise-by-state-requires : tie.Need-raise-by-state-requires
-raise-by-state-requires c κs = let o = c .before .before .before .before .before .before .before .before .before in dense-raise (o .args .a) (now (o .args .registers)) (stateOf (now (o .args .bytes)) (o .args .f)) (now (o .args .values)) (o .pre) (c .before .before .before .lower-own .result) _ (c .before .before .before .lower-own .ensures)
+raise-requires : tie.Need-raise-requires
+raise-requires c κs = let o = c .before .before .before .before .before .before .before .before in dense-raise (o .args .a) (now (o .args .registers)) (o .args .x) (now (o .args .row)) (now (o .args .values)) (o .pre) (c .before .before .before .lower-own .result) _ (c .before .before .before .lower-own .ensures)
 
 dense-head-requires : tie.Need-dense-head-requires
 dense-head-requires c κs = search needs
@@ -19,9 +18,8 @@ same-length : tie.Need-same-length
 same-length c = search needs
 
 returns : tie.Need-returns
-returns c = let o = c .before .before .before .before .before .before .before .before .before .before .before .before .before in dense-post (o .args .a) (now (o .args .registers)) (stateOf (now (o .args .bytes)) (o .args .f)) (now (o .args .values)) (o .pre) (c .before .before .before .before .before .before .before .lower-own .result) _ (c .before .before .before .before .before .before .before .lower-own .ensures) (c .dense-head .result) _ (c .before .before .before .raise-by-state .ensures) (c .dense-head .ensures)
+returns c = let o = c .before .before .before .before .before .before .before .before .before .before .before .before in dense-post (o .args .a) (now (o .args .registers)) (o .args .x) (now (o .args .row)) (now (o .args .values)) (o .pre) (c .before .before .before .before .before .before .before .lower-own .result) _ (c .before .before .before .before .before .before .before .lower-own .ensures) (c .dense-head .result) _ (c .before .before .before .raise .ensures) (c .dense-head .ensures)
 
 pub accept-dense-spec : {M : Type 1} → statement M
 accept-dense-spec =
-    tie.close
-    (tie.spec lower-own-requires raise-by-state-requires dense-head-requires same-length returns)
+    tie.close (tie.spec lower-own-requires raise-requires dense-head-requires same-length returns)

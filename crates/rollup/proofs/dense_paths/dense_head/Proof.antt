@@ -1,14 +1,8 @@
 -- Each number of the head is that of the call which gives it.
-use mathlib.Core.Path.{ap}
-use Prim.Native.Nat.{ℕ}
-use lib.Bits.{bitAnd}
 use Rattle.rollup.proofs.DenseLaws.{dense-head-is}
 use borrow.Author.Needs.{needs}
 use Rattle.rollup.proofs.dense_paths.dense_head.Statement.{statement}
 use Rattle.rollup.proofs.dense_paths.dense_head.Tie as tie
-
-allowed-types-requires : tie.Need-allowed-types-requires
-allowed-types-requires c κs = search needs
 
 signed-min-requires : tie.Need-signed-min-requires
 signed-min-requires c κs = search needs
@@ -17,9 +11,7 @@ wrapping-add-u64-requires : tie.Need-wrapping-add-u64-requires
 wrapping-add-u64-requires c κs = search needs
 
 returns : tie.Need-returns
-returns c = let o = c .before .before .before .before .before in dense-head-is (ap (λ (n : ℕ). bitAnd (o .args .a .allowed) n) (c .before .before .before .allowed-types .ensures)) (c .before .wrapping-add-u64 .ensures) (c .before .before .signed-min .ensures)
+returns c = dense-head-is (c .before .before .wrapping-add-u64 .ensures) (c .before .before .before .signed-min .ensures)
 
 pub dense-head-spec : {M : Type 1} → statement M
-dense-head-spec =
-    tie.close
-    (tie.spec allowed-types-requires signed-min-requires wrapping-add-u64-requires returns)
+dense-head-spec = tie.close (tie.spec signed-min-requires wrapping-add-u64-requires returns)
