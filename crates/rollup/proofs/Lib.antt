@@ -3,6 +3,7 @@ pub mod DenseLaws
 pub mod AddLaws
 pub mod FitLaws
 pub mod JudgeLaws
+pub mod PathLaws
 pub mod SparseLaws
 pub mod WaysLaws
 pub mod WriteLaws
