@@ -3,7 +3,7 @@ use Prim.Native.Nat.{ℕ, _+_, _-_, _^_, _<_, _≤_}
 use mathlib.Core.Path.{_≡_, refl, sym, ap, ap₂, subst, _∙_}
 use mathlib.Core.Bool.{Bool, true, cond}
 use mathlib.Core.List.{List, [], _++_, List·Permᴰ, Permᴰ·refl, Permᴰ·append-left}
-use mathlib.Core.Logic.{⊎-elim}
+use mathlib.Core.Logic.{_⊎_, ⊎-elim}
 use native.Mathlib.Nat.{pos-of-ne-zero, min-le-left}
 use native.Mathlib.Omega.{arith}
 use lib.ListN.{length, take, length-take, length-replicate, length-append}
@@ -282,9 +282,9 @@ module _ {h : Accumulator} {kept waiting vs : List ℕ} (ready : ListReady (h .p
         few = omega (arith, ap length (one .values), one .count, one-count, few, ready .incoming-short);
       }
 
-  one-shows : {registers left : List ℕ} {r : Accumulator} (rest : List ℕ) → Leaves (settle h registers (take (u .len) after) (u .bytes)) r left
+  one-shows : (registers : List ℕ) {left : List ℕ} {r : Accumulator} (rest : List ℕ) → Leaves (settle h registers (take (u .len) after) (u .bytes)) r left
       → Shows (settle h registers (merged (h .precision) (h .«sparse_precision») kept (waiting ++ vs)) bytes) r (mem left after rest)
-  one-shows {registers} {left} {r} rest x =
+  one-shows registers {left} {r} rest x =
       settled-shows h registers (merged (h .precision) (h .«sparse_precision») kept (waiting ++ vs)) bytes r left after rest (u .len) (one .count) (one .values)
       (subst (λ (y : After). Leaves y r left) (ap₂ (settle h registers) (one .values) (one .sum)) x)
 
@@ -344,13 +344,13 @@ module _ {h : Accumulator} {registers sparse pending scratch : List ℕ} {k : �
 
     pub merged-shows : {left : List ℕ} {r : Accumulator} (rest : List ℕ) → Leaves (settle h registers (take (u .len) after) (u .bytes)) r left
         → Shows (settle h registers (allMerged h (mem registers sparse pending) vs) (written (allMerged h (mem registers sparse pending) vs))) r (mem left after rest)
-    merged-shows = one-shows (pre .ready) merged-few merged-one
+    merged-shows = one-shows (pre .ready) merged-few merged-one registers
 
 -- They are inserted.
 module _ {h : Accumulator} {registers sparse vs : List ℕ} (pre : InsertInPre h registers sparse vs) {enc : Encoding}
     (new : NewPost (h .precision) (h .«sparse_precision») enc) where
-  abbrev kept : List ℕ
-  kept = take (h .«sparse_len») sparse
+  abbrev own : List ℕ
+  own = take (h .«sparse_len») sparse
 
   pub insert-into : InsertPre enc sparse (h .«sparse_len») vs (h .«sparse_bytes»)
   insert-into =
@@ -358,20 +358,20 @@ module _ {h : Accumulator} {registers sparse vs : List ℕ} (pre : InsertInPre h
         fits = new .fits;
         room = pre .in-sparse;
         rises = pre .ready .order;
-        distinct = of-pair new (λ (p s : ℕ). distinctSlots p s kept ≡ true) (pre .distinct);
+        distinct = of-pair new (λ (p s : ℕ). distinctSlots p s own ≡ true) (pre .distinct);
         least = pre .ready .bytes-low;
         most = omega (arith, pre .ready .bytes-high, pre .ready .incoming-short);
       }
 
   module _ {u : Merged} {after : List ℕ}
       (post : InsertPost (enc .«normal_precision») (enc .«sparse_precision») sparse (h .«sparse_len») vs (h .«sparse_bytes») u after) where
-    inserted-few : length kept + 0 ≤ 2147483647
+    inserted-few : length own + 0 ≤ 2147483647
     inserted-few = omega (arith, pre .ready .short, taken-length (h .«sparse_len») sparse)
 
     abbrev bytesOf : List ℕ → ℕ
-    bytesOf l = h .«sparse_bytes» + written l - written kept
+    bytesOf l = h .«sparse_bytes» + written l - written own
 
-    inserted-one : OneList (h .precision) (h .«sparse_precision») kept vs (bytesOf (merged (h .precision) (h .«sparse_precision») kept vs)) u after
+    inserted-one : OneList (h .precision) (h .«sparse_precision») own vs (bytesOf (merged (h .precision) (h .«sparse_precision») own vs)) u after
     inserted-one =
         let x = at-pair new (λ (p s : ℕ). InsertPost p s sparse (h .«sparse_len») vs (h .«sparse_bytes») u after) post in
         record { count = x .count; sum = omega (arith, x .bytes); values = x .values }
@@ -389,9 +389,9 @@ module _ {h : Accumulator} {registers sparse vs : List ℕ} (pre : InsertInPre h
     inserted-shows {left} {r} pending x =
         subst
         (λ (w : List ℕ).
-        let l = merged (h .precision) (h .«sparse_precision») kept (w ++ vs) in
+        let l = merged (h .precision) (h .«sparse_precision») own (w ++ vs) in
         Shows (settle h registers l (bytesOf l)) r (mem left after pending)) (sym (ap (λ (w : ℕ). take w pending) (pre .none)))
-        (one-shows (pre .ready) inserted-few inserted-one pending x)
+        (one-shows (pre .ready) inserted-few inserted-one registers pending x)
 
 -- ---- counts
 
