@@ -31,7 +31,7 @@ use Rattle.rollup.specs.declared.paths.Path.{Path}
 use Rattle.rollup.specs.declared.paths.Path.the-variants.{None, Waits, Inserts, Merges, Sorts}
 use Rattle.rollup.specs.Accumulator.{Mem, mem, keptOf, waitingOf, limit}
 use Rattle.rollup.specs.Header.{isEmpty}
-use Rattle.rollup.specs.Taking.{After, unchanged, counted, withList, densed, asList, asDense, settle, listPath, pathOf, allMerged, asWaiting, listAfter, rowTaken, sparseAfter}
+use Rattle.rollup.specs.Taking.{After, unchanged, commonMask, sumCount, counted, withList, densed, asList, asDense, settle, listPath, pathOf, allMerged, asWaiting, listAfter, rowTaken, sparseAfter}
 use Rattle.rollup.specs.Adding.{wantedPrecision, Shows}
 use Rattle.rollup.specs.SparsePaths.{SettlePre, Leaves, BackPre, JoinPre, ListReady, ListRoom, MergeInPre, InsertInPre, DensifyPre}
 use Rattle.rollup.specs.Accepting.{TakePre, TakingPre}
@@ -46,6 +46,24 @@ module _ {p s : ℕ} {enc : Encoding} (n : NewPost p s enc) (P : ℕ → ℕ →
 
   pub of-pair : P p s → P (enc .«normal_precision») (enc .«sparse_precision»)
   of-pair x = subst (λ (q : ℕ). P q (enc .«sparse_precision»)) (sym (n .normal)) (subst (λ (t : ℕ). P p t) (sym (n .sparse)) x)
+
+-- ---- heads
+
+pub counted-head : (a : Accumulator) (x : Incoming) (count : ℕ) → count ≡ sumCount a (x .«num_values»)
+    → record {
+      form = a .form;
+      allowed = commonMask a (x .mask);
+      «value_type» = a .«value_type»;
+      «num_values» = count;
+      precision = a .precision;
+      «sparse_precision» = a .«sparse_precision»;
+      «sparse_size» = a .«sparse_size»;
+      «sparse_len» = a .«sparse_len»;
+      «sparse_bytes» = a .«sparse_bytes»;
+      «pending_len» = a .«pending_len»;
+    }
+    ≡ counted a x
+counted-head a x count e = rw e
 
 -- ---- registers
 
