@@ -117,8 +117,7 @@ module _ (a : Accumulator) (kept : List ℕ) (x : Incoming) (k : ℕ) where
   -- An insertion comes to a list that a merge can leave, and none wait.
   pub path-inserts : Inserts ≡ listPath a kept x k → (a .«pending_len» ≡ 0) × (distinctSlots (a .precision) (a .«sparse_precision») kept ≡ true)
   path-inserts e =
-      let t = insertion (eqb k 0) (waits a x k) othersWait (inserts a kept k) (ap isInsertion (sym e)) in
-      (
+      let t = insertion (eqb k 0) (waits a x k) othersWait (inserts a kept k) (ap isInsertion (sym e)) in (
         eqb-true (a .«pending_len») 0 (not-false (eqb (a .«pending_len») 0) (t .0)),
         both-true (leb k 16 && leb (16 * k) (a .«sparse_len»)) (distinctSlots (a .precision) (a .«sparse_precision») kept) (t .1) .1,
       )

@@ -28,13 +28,12 @@ use Rattle.rollup.specs.declared.accumulator.Form.the-variants.{Sparse}
 use Rattle.rollup.specs.declared.accumulator.Accumulator.{Accumulator}
 use Rattle.rollup.specs.declared.incoming.Incoming.{Incoming}
 use Rattle.rollup.specs.declared.paths.Path.{Path}
-use Rattle.rollup.specs.declared.paths.Path.the-variants.{None, Waits, Inserts, Merges, Sorts}
+use Rattle.rollup.specs.declared.paths.Path.the-variants.{None, Waits, Sorts, Inserts, Merges}
 use Rattle.rollup.specs.Accumulator.{Mem, mem, keptOf, waitingOf, limit}
-use Rattle.rollup.specs.Header.{isEmpty}
-use Rattle.rollup.specs.Taking.{After, unchanged, commonMask, sumCount, counted, withList, densed, asList, asDense, settle, listPath, pathOf, allMerged, asWaiting, listAfter, rowTaken, sparseAfter}
+use Rattle.rollup.specs.Taking.{After, commonMask, sumCount, counted, withList, densed, asList, asDense, settle, listPath, allMerged, listAfter, rowTaken, sparseAfter}
 use Rattle.rollup.specs.Adding.{wantedPrecision, Shows}
 use Rattle.rollup.specs.SparsePaths.{SettlePre, Leaves, BackPre, JoinPre, ListReady, ListRoom, MergeInPre, InsertInPre, DensifyPre}
-use Rattle.rollup.specs.Accepting.{TakePre, TakingPre}
+use Rattle.rollup.specs.Accepting.{TakingPre}
 use Rattle.rollup.proofs.FitLaws.{FitSparse, fit-sparse}
 use Rattle.rollup.proofs.PathLaws.{isSome, path-form, path-some, path-inserts}
 
@@ -168,10 +167,10 @@ copied w k r front after e f = ap (λ (n : ℕ). take n after) (let g : w + k �
 -- ---- merges
 
 module _ (p s : ℕ) where
-  pub merged-sort : (a b : List ℕ) → merged p s a (sortOf b) ≡ merged p s a b
+  merged-sort : (a b : List ℕ) → merged p s a (sortOf b) ≡ merged p s a b
   merged-sort a b = merged-perm p s a (sortOf b) a b (Permᴰ·append-left a (perm-sort b))
 
-  pub merge-post : (a b c : List ℕ) (r : Merged) (after : List ℕ) → merged p s a b ≡ merged p s a c → MergePost p s a b r after → MergePost p s a c r after
+  merge-post : (a b c : List ℕ) (r : Merged) (after : List ℕ) → merged p s a b ≡ merged p s a c → MergePost p s a b r after → MergePost p s a c r after
   merge-post a b c r after e m =
       record { count = m .count ∙ ap length e; bytes = m .bytes ∙ ap written e; values = m .values ∙ e }
 
@@ -321,6 +320,9 @@ module _ {h : Accumulator} {registers sparse pending scratch : List ℕ} {k : �
   abbrev vs : List ℕ
   vs = take k scratch
 
+  merged-few : length kept + length waiting ≤ 2147483647
+  merged-few = omega (arith, pre .ready .short, taken-length (h .«sparse_len») sparse, taken-length (h .«pending_len») pending)
+
   pub merge-join : JoinPre enc sparse (h .«sparse_len») pending (h .«pending_len») scratch k
   merge-join =
       let x = of-pair new (λ (p s : ℕ). ListReady p s h kept waiting vs) (pre .ready) in
@@ -337,9 +339,6 @@ module _ {h : Accumulator} {registers sparse pending scratch : List ℕ} {k : �
       }
 
   module _ {u : Merged} {after : List ℕ} (post : MergePost (enc .«normal_precision») (enc .«sparse_precision») kept (waiting ++ vs) u after) where
-    merged-few : length kept + length waiting ≤ 2147483647
-    merged-few = omega (arith, pre .ready .short, taken-length (h .«sparse_len») sparse, taken-length (h .«pending_len») pending)
-
     merged-one : OneList (h .precision) (h .«sparse_precision») kept (waiting ++ vs)
         (written (merged (h .precision) (h .«sparse_precision») kept (waiting ++ vs))) u after
     merged-one =
@@ -370,6 +369,12 @@ module _ {h : Accumulator} {registers sparse vs : List ℕ} (pre : InsertInPre h
   abbrev own : List ℕ
   own = take (h .«sparse_len») sparse
 
+  abbrev bytesOf : List ℕ → ℕ
+  bytesOf l = h .«sparse_bytes» + written l - written own
+
+  inserted-few : length own + 0 ≤ 2147483647
+  inserted-few = omega (arith, pre .ready .short, taken-length (h .«sparse_len») sparse)
+
   pub insert-into : InsertPre enc sparse (h .«sparse_len») vs (h .«sparse_bytes»)
   insert-into =
       record {
@@ -383,12 +388,6 @@ module _ {h : Accumulator} {registers sparse vs : List ℕ} (pre : InsertInPre h
 
   module _ {u : Merged} {after : List ℕ}
       (post : InsertPost (enc .«normal_precision») (enc .«sparse_precision») sparse (h .«sparse_len») vs (h .«sparse_bytes») u after) where
-    inserted-few : length own + 0 ≤ 2147483647
-    inserted-few = omega (arith, pre .ready .short, taken-length (h .«sparse_len») sparse)
-
-    abbrev bytesOf : List ℕ → ℕ
-    bytesOf l = h .«sparse_bytes» + written l - written own
-
     inserted-one : OneList (h .precision) (h .«sparse_precision») own vs (bytesOf (merged (h .precision) (h .«sparse_precision») own vs)) u after
     inserted-one =
         let x = at-pair new (λ (p s : ℕ). InsertPost p s sparse (h .«sparse_len») vs (h .«sparse_bytes») u after) post in
@@ -450,28 +449,25 @@ module _ {a : Accumulator} {m : Mem} {scratch : List ℕ} {x : Incoming} {path :
       let some : 0 < length (take k scratch) = omega (arith, path-some a (keptOf a m) x k path its e, taken-values) in
       subst (λ (n : ℕ). ListRoom a n (length (m .sparse)) (length (m .pending)) (length scratch)) taken-values (pre .take .in-lists some)
 
+  taking-ready : ListReady (a .precision) (a .«sparse_precision») (counted a x) (keptOf a m) (waitingOf a m) (take k scratch)
+  taking-ready =
+      let t = pre .take in
+      let fit = taking-fit in
+      record {
+        pair = fit .pair;
+        order = fit .order;
+        kept-valid = fit .kept-valid;
+        waiting-valid = fit .waiting-valid;
+        incoming-order = t .order;
+        incoming-valid = ap₂ (λ (p s : ℕ). allValid p s (take k scratch)) (sym (t .same-normal f)) (sym (t .same-sparse f)) ∙ t .all;
+        bytes-low = fit .bytes-low;
+        bytes-high = fit .bytes-high;
+        short = counts-short fit;
+        incoming-short = t .incoming-short;
+      }
+
   -- The head is counted; its lists are as they were.
   module _ {h : Accumulator} (c : h ≡ counted a x) where
-    abbrev Ready : Accumulator → List ℕ → Type 0
-    Ready y waiting = ListReady (y .precision) (y .«sparse_precision») y (keptOf y m) waiting (take k scratch)
-
-    ready : Ready (counted a x) (waitingOf a m)
-    ready =
-        let t = pre .take in
-        let fit = taking-fit in
-        record {
-          pair = fit .pair;
-          order = fit .order;
-          kept-valid = fit .kept-valid;
-          waiting-valid = fit .waiting-valid;
-          incoming-order = t .order;
-          incoming-valid = ap₂ (λ (p s : ℕ). allValid p s (take k scratch)) (sym (t .same-normal f)) (sym (t .same-sparse f)) ∙ t .all;
-          bytes-low = fit .bytes-low;
-          bytes-high = fit .bytes-high;
-          short = counts-short fit;
-          incoming-short = t .incoming-short;
-        }
-
     pub densify-pre : (length row ≡ 0 → ⊥) → DensifyPre h (m .registers) (keptOf a m) (waitingOf a m) row
     densify-pre n =
         let fit = taking-fit in
@@ -492,7 +488,7 @@ module _ {a : Accumulator} {m : Mem} {scratch : List ℕ} {x : Incoming} {path :
         let r = taking-room e in
         subst (λ (y : Accumulator). MergeInPre y (m .registers) (m .sparse) (m .pending) scratch k) (sym c)
         (record {
-          ready = ready;
+          ready = taking-ready;
           room = record { in-sparse = r .in-sparse; in-pending = r .in-pending; in-scratch = r .in-scratch };
           in-registers = taking-registers;
         })
@@ -502,10 +498,12 @@ module _ {a : Accumulator} {m : Mem} {scratch : List ℕ} {x : Incoming} {path :
         let t = path-inserts a (keptOf a m) x k (sym e ∙ its) in
         subst (λ (y : Accumulator). InsertInPre y (m .registers) (m .sparse) (take k scratch)) (sym c)
         (record {
-          ready = subst (Ready (counted a x)) (ap (λ (w : ℕ). take w (m .pending)) (t .0)) ready;
+          ready =
+              subst (λ (w : List ℕ). ListReady (a .precision) (a .«sparse_precision») (counted a x) (keptOf a m) w (take k scratch))
+              (ap (λ (w : ℕ). take w (m .pending)) (t .0)) taking-ready;
           none = t .0;
           distinct = t .1;
-          in-sparse = omega (arith, taking-room (ap isSome e) .in-sparse, taken-values, t .0);
+          in-sparse = omega (arith, taking-room (ap isSome e) .in-sparse, taken-values);
           in-registers = taking-registers;
         })
 

@@ -15,10 +15,10 @@ insert-dedupe-requires : tie.Need-insert-dedupe-requires
 insert-dedupe-requires c κs = insert-into (c .before .before .before .before .before .pre) (c .before .new .ensures)
 
 slice-reshare-prefix-settle : tie.Need-slice-reshare-prefix-settle
-slice-reshare-prefix-settle c = inserted-inside (c .before .before .before .before .before .before .before .before .before .pre) (c .before .before .before .before .before .new .ensures) (c .before .before .before .insert-dedupe .ensures) (c .before .before .before .insert-dedupe .kept .1 .1 .0)
+slice-reshare-prefix-settle c = inserted-inside (c .before .before .before .before .before .before .before .before .before .pre) (c .before .before .before .before .before .new .ensures) (c .before .before .before .insert-dedupe .ensures) (c .before .before .before .insert-dedupe .kept .1 .0)
 
 slice-aggregate-settle : tie.Need-slice-aggregate-settle
-slice-aggregate-settle c = sym (length-take-le _ _ (inserted-inside (c .before .before .before .before .before .before .before .before .before .before .pre) (c .before .before .before .before .before .before .new .ensures) (c .before .before .before .before .insert-dedupe .ensures) (c .before .before .before .before .insert-dedupe .kept .1 .1 .0)))
+slice-aggregate-settle c = sym (length-take-le _ _ (inserted-inside (c .before .before .before .before .before .before .before .before .before .before .pre) (c .before .before .before .before .before .before .new .ensures) (c .before .before .before .before .insert-dedupe .ensures) (c .before .before .before .before .insert-dedupe .kept .1 .0)))
 
 settle-requires : tie.Need-settle-requires
 settle-requires c κs = inserted-settle (c .before .before .before .before .before .before .before .before .before .before .pre) (c .before .before .before .before .before .before .new .ensures) (c .before .before .before .before .insert-dedupe .ensures)

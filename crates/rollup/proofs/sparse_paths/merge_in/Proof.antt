@@ -13,10 +13,10 @@ merge-all-requires : tie.Need-merge-all-requires
 merge-all-requires c κs = merge-join (c .before .before .before .before .before .before .before .before .pre) (c .before .before .before .new .ensures)
 
 slice-reshare-prefix-settle : tie.Need-slice-reshare-prefix-settle
-slice-reshare-prefix-settle c = merged-inside (c .before .before .before .before .before .before .before .before .before .before .before .before .before .before .before .before .pre) (c .before .before .before .before .before .before .before .before .before .before .before .new .ensures) (c .before .before .before .before .before .before .before .merge-all .ensures) (c .before .before .before .before .before .before .before .merge-all .kept .1 .1 .0)
+slice-reshare-prefix-settle c = merged-inside (c .before .before .before .before .before .before .before .before .before .before .before .before .before .before .before .before .pre) (c .before .before .before .before .before .before .before .before .before .before .before .new .ensures) (c .before .before .before .before .before .before .before .merge-all .ensures) (c .before .before .before .before .before .before .before .merge-all .kept .1 .0)
 
 slice-aggregate-settle : tie.Need-slice-aggregate-settle
-slice-aggregate-settle c = sym (length-take-le _ _ (merged-inside (c .before .before .before .before .before .before .before .before .before .before .before .before .before .before .before .before .before .pre) (c .before .before .before .before .before .before .before .before .before .before .before .before .new .ensures) (c .before .before .before .before .before .before .before .before .merge-all .ensures) (c .before .before .before .before .before .before .before .before .merge-all .kept .1 .1 .0)))
+slice-aggregate-settle c = sym (length-take-le _ _ (merged-inside (c .before .before .before .before .before .before .before .before .before .before .before .before .before .before .before .before .before .pre) (c .before .before .before .before .before .before .before .before .before .before .before .before .new .ensures) (c .before .before .before .before .before .before .before .before .merge-all .ensures) (c .before .before .before .before .before .before .before .before .merge-all .kept .1 .0)))
 
 settle-requires : tie.Need-settle-requires
 settle-requires c κs = merged-settle (c .before .before .before .before .before .before .before .before .before .before .before .before .before .before .before .before .before .pre) (c .before .before .before .before .before .before .before .before .before .before .before .before .new .ensures) (c .before .before .before .before .before .before .before .before .merge-all .ensures)
