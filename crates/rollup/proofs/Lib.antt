@@ -5,6 +5,7 @@ pub mod AddLaws
 pub mod FitLaws
 pub mod JudgeLaws
 pub mod TakeLaws
+pub mod PathLaws
 pub mod SparseLaws
 pub mod WaysLaws
 pub mod WriteLaws

@@ -1,62 +1,31 @@
--- What is known where the path begins (`known`) gives what each path requires; each leaves its case of the definition (`shows-data`, `shows-list`, `shows-none`).
-use Prim.Native.Nat.{ℕ}
-use mathlib.Core.Path.{refl, sym, subst}
-use mathlib.Core.List.{List}
+-- What the path tells gives what its function requires (`densify-pre` to `insert-pre`); each leaves its case of the definition (`shows-row` to `shows-merged`).
+use mathlib.Core.Path.{sym, ap}
+use mathlib.Core.Logic.{⊎-elim, inl, inr}
 use denote.Ref.{now}
-use lib.ListN.{length, take}
 use lib.Seq.{length-take-le}
-use Rattle.wire.specs.State.{State, stateOf}
-use Rattle.rollup.specs.Header.{dataOf, listOf}
-use Rattle.rollup.specs.declared.accumulator.Accumulator.{Accumulator}
-use Rattle.rollup.specs.Accumulator.{Mem, mem}
-use Rattle.rollup.specs.Paths.{KnownDistinct}
-use Rattle.rollup.proofs.SparseLaws.{SparseKnown, known, counted-by, bytes-there, bytes-none, data-pre, list-pre, shows-data, shows-none, shows-list}
+use Rattle.rollup.proofs.PathLaws.{isSome}
+use Rattle.rollup.proofs.SparseLaws.{taking-fit, densify-pre, wait-pre, merge-pre, insert-pre, shows-row, shows-none, shows-waits, shows-inserted, shows-merged}
 use borrow.Author.Needs.{needs}
 use Rattle.rollup.proofs.sparse_paths.accept_sparse.Statement.{statement}
 use Rattle.rollup.proofs.sparse_paths.accept_sparse.Tie as tie
 
--- The memory, the state and its values where the function begins.
-abbrev m : tie.Start → Mem
-m o = mem (now (o .args .registers)) (now (o .args .sparse)) (now (o .args .pending))
-
-abbrev st : tie.Start → State
-st o = stateOf (now (o .args .bytes)) (o .args .f)
-
-abbrev vs : tie.Start → List ℕ
-vs o = take (o .args .k) (now (o .args .scratch))
-
-known-at : (o : tie.Start) → SparseKnown (o .args .a) (m o) (length (now (o .args .scratch))) (st o) (vs o)
-known-at o = known (o .args .a) (m o) (length (now (o .args .scratch))) (st o) (vs o) (o .pre .0) (o .pre .2)
-
-allowed-types-requires : tie.Need-allowed-types-requires
-allowed-types-requires c κs = search needs
-
 counted-requires : tie.Need-counted-requires
 counted-requires c κs = search needs
 
-has-data-requires : tie.Need-has-data-requires
-has-data-requires c κs = search needs
-
 slice-reshare-prefix-densify-with : tie.Need-slice-reshare-prefix-densify-with
-slice-reshare-prefix-densify-with c = known-at (c .before .before .before .before .before .before .before .before .before .before) .fit .kept-in
+slice-reshare-prefix-densify-with c = let o = c .before .before .before .before .before .before .before .before in taking-fit (o .pre .0) (o .pre .1) .kept-in
 
 slice-aggregate-densify-with : tie.Need-slice-aggregate-densify-with
-slice-aggregate-densify-with c = let o = c .before .before .before .before .before .before .before .before .before .before .before in sym (length-take-le (o .args .a .«sparse_len») (now (o .args .sparse)) (known-at o .fit .kept-in))
+slice-aggregate-densify-with c = let o = c .before .before .before .before .before .before .before .before .before in sym (length-take-le (o .args .a .«sparse_len») (now (o .args .sparse)) (taking-fit (o .pre .0) (o .pre .1) .kept-in))
 
 slice-reshare-prefix-densify-with-2 : tie.Need-slice-reshare-prefix-densify-with-2
-slice-reshare-prefix-densify-with-2 c = known-at (c .before .before .before .before .before .before .before .before .before .before .before) .fit .waiting-in
+slice-reshare-prefix-densify-with-2 c = let o = c .before .before .before .before .before .before .before .before .before in taking-fit (o .pre .0) (o .pre .1) .waiting-in
 
 slice-aggregate-densify-with-2 : tie.Need-slice-aggregate-densify-with-2
-slice-aggregate-densify-with-2 c = let o = c .before .before .before .before .before .before .before .before .before .before .before .before in sym (length-take-le (o .args .a .«pending_len») (now (o .args .pending)) (known-at o .fit .waiting-in))
-
-data-requires : tie.Need-data-requires
-data-requires c κs = search needs
+slice-aggregate-densify-with-2 c = let o = c .before .before .before .before .before .before .before .before .before .before in sym (length-take-le (o .args .a .«pending_len») (now (o .args .pending)) (taking-fit (o .pre .0) (o .pre .1) .waiting-in))
 
 densify-with-requires : tie.Need-densify-with-requires
-densify-with-requires c κs =
-    let o = c .before .before .before .before .before .before .before .before .before .before .before .before .before in
-    data-pre (known-at o) (bytes-there (dataOf (st o)) (c .before .before .before .before .before .has-data .result) (c .before .before .before .before .before .has-data .ensures) (c .before .before .before .before .if1 .taken)) (c .before .before .before .before .before .before .counted .result) _
-    (counted-by (o .args .a) (m o) (st o) (c .before .before .before .before .before .before .counted .result) (c .before .before .before .before .before .before .before .allowed-types .result) (c .before .before .before .before .before .before .before .allowed-types .ensures) (c .before .before .before .before .before .before .counted .ensures)) (c .«data» .ensures)
+densify-with-requires c κs = let o = c .before .before .before .before .before .before .before .before .before .before in densify-pre (o .pre .0) (o .pre .1) (c .before .before .before .before .counted .ensures) (c .before .before .before .if1 .taken)
 
 same-length : tie.Need-same-length
 same-length c = search needs
@@ -68,20 +37,19 @@ same-length-3 : tie.Need-same-length-3
 same-length-3 c = search needs
 
 returns : tie.Need-returns
-returns c =
-    let o = c .before .before .before .before .before .before .before .before .before .before .before .before .before .before .before .before in
-    shows-data (o .args .a) (m o) (st o) (vs o) (bytes-there (dataOf (st o)) (c .before .before .before .before .before .before .before .before .has-data .result) (c .before .before .before .before .before .before .before .before .has-data .ensures) (c .before .before .before .before .before .before .before .if1 .taken)) (c .before .before .before .before .before .before .before .before .before .counted .result) (c .before .before .densify-with .result) _ _
-    (counted-by (o .args .a) (m o) (st o) (c .before .before .before .before .before .before .before .before .before .counted .result) (c .before .before .before .before .before .before .before .before .before .before .allowed-types .result) (c .before .before .before .before .before .before .before .before .before .before .allowed-types .ensures) (c .before .before .before .before .before .before .before .before .before .counted .ensures)) (c .before .before .before .«data» .ensures) (c .before .before .densify-with .ensures .0) (c .before .before .densify-with .ensures .1)
+returns c = let o = c .before .before .before .before .before .before .before .before .before .before .before .before .before in shows-row (o .pre .0) (o .pre .1) (c .before .before .before .before .before .before .before .counted .ensures) (c .before .before .before .before .before .before .if1 .taken) (c .before .before .densify-with .ensures .0) (c .before .before .densify-with .ensures .1)
 
-has-sparse-data-requires : tie.Need-has-sparse-data-requires
-has-sparse-data-requires c κs = search needs
+enum-told : tie.Need-enum-told
+enum-told c = search needs
 
-merge-sparse-requires : tie.Need-merge-sparse-requires
-merge-sparse-requires c κs =
-    let o = c .before .before .before .before .before .before .before .before .before .before .before .before .before .before .before in
-    let h = c .before .before .before .before .before .before .before .before .counted .result in
-    let e = counted-by (o .args .a) (m o) (st o) (c .before .before .before .before .before .before .before .before .counted .result) (c .before .before .before .before .before .before .before .before .before .allowed-types .result) (c .before .before .before .before .before .before .before .before .before .allowed-types .ensures) (c .before .before .before .before .before .before .before .before .counted .ensures) in
-    (list-pre (known-at o) (bytes-there (listOf (st o)) (c .before .before .before .before .before .has-sparse-data .result) (c .before .before .before .before .before .has-sparse-data .ensures) (c .before .before .before .before .if2 .taken)) (o .args .k) (now (o .args .scratch)) (o .pre .1) refl refl h e, subst (λ (x : Accumulator). KnownDistinct (o .args .distinct) (x .precision) (x .«sparse_precision») (take (x .«sparse_len») (now (o .args .sparse)))) (sym e) (o .pre .3))
+returns-2 : tie.Need-returns-2
+returns-2 c = let o = c .before .before .before .before .before .before .before .before .before in shows-none (o .pre .0) (o .pre .1) (c .before .before .before .counted .ensures) (c .before .before .if1 .left) (c .enum-told .given .1)
+
+enum-told-2 : tie.Need-enum-told-2
+enum-told-2 c = search needs
+
+wait-requires : tie.Need-wait-requires
+wait-requires c κs = let o = c .before .before .before .before .before .before .before .before .before .before .before in wait-pre (o .pre .0) (o .pre .1) (c .before .before .before .before .before .counted .ensures) (c .before .before .enum-told2 .given .1)
 
 same-length-4 : tie.Need-same-length-4
 same-length-4 c = search needs
@@ -89,48 +57,95 @@ same-length-4 c = search needs
 same-length-5 : tie.Need-same-length-5
 same-length-5 c = search needs
 
+returns-3 : tie.Need-returns-3
+returns-3 c = let o = c .before .before .before .before .before .before .before .before .before .before .before .before .before .before in shows-waits (o .pre .0) (o .pre .1) (c .before .before .before .before .before .before .before .before .counted .ensures) (c .before .before .before .before .before .before .before .if1 .left) (c .before .before .before .before .before .enum-told2 .given .1) (c .before .before .wait .ensures .0) (c .before .before .wait .ensures .1)
+
+enum-told-3 : tie.Need-enum-told-3
+enum-told-3 c = search needs
+
+enum-told-4 : tie.Need-enum-told-4
+enum-told-4 c = search needs
+
+slice-reshare-prefix-insert-in : tie.Need-slice-reshare-prefix-insert-in
+slice-reshare-prefix-insert-in c = search needs
+
+slice-aggregate-insert-in : tie.Need-slice-aggregate-insert-in
+slice-aggregate-insert-in c = let o = c .before .before .before .before .before .before .before .before .before .before .before .before in sym (length-take-le (o .args .k) (now (o .args .scratch)) (o .pre .1 .inside))
+
+insert-in-requires : tie.Need-insert-in-requires
+insert-in-requires c κs = let o = c .before .before .before .before .before .before .before .before .before .before .before .before in insert-pre (o .pre .0) (o .pre .1) (c .before .before .before .before .before .before .counted .ensures) (c .before .before .before .enum-told4 .given .1)
+
 same-length-6 : tie.Need-same-length-6
 same-length-6 c = search needs
 
 same-length-7 : tie.Need-same-length-7
 same-length-7 c = search needs
 
-returns-2 : tie.Need-returns-2
-returns-2 c =
-    let o = c .before .before .before .before .before .before .before .before .before .before .before .before .before .before .before .before .before .before .before .before .before .before .before .before in
-    shows-list (o .args .a) (m o) (st o) (vs o) (bytes-none (dataOf (st o)) (c .before .before .before .before .before .before .before .before .before .before .before .before .before .before .before .before .has-data .result) (c .before .before .before .before .before .before .before .before .before .before .before .before .before .before .before .before .has-data .ensures) (c .before .before .before .before .before .before .before .before .before .before .before .before .before .before .before .if1 .left))
-    (bytes-there (listOf (st o)) (c .before .before .before .before .before .before .before .before .before .before .before .before .before .before .has-sparse-data .result) (c .before .before .before .before .before .before .before .before .before .before .before .before .before .before .has-sparse-data .ensures) (c .before .before .before .before .before .before .before .before .before .before .before .before .before .if2 .taken)) (c .before .before .before .before .before .before .before .before .before .before .before .before .before .before .before .before .before .counted .result) (c .before .before .before .before .before .before .before .before .merge-sparse .result) _
-    (counted-by (o .args .a) (m o) (st o) (c .before .before .before .before .before .before .before .before .before .before .before .before .before .before .before .before .before .counted .result) (c .before .before .before .before .before .before .before .before .before .before .before .before .before .before .before .before .before .before .allowed-types .result) (c .before .before .before .before .before .before .before .before .before .before .before .before .before .before .before .before .before .before .allowed-types .ensures) (c .before .before .before .before .before .before .before .before .before .before .before .before .before .before .before .before .before .counted .ensures)) (c .before .before .before .before .before .before .before .before .merge-sparse .ensures)
+same-length-8 : tie.Need-same-length-8
+same-length-8 c = search needs
 
-returns-3 : tie.Need-returns-3
-returns-3 c =
-    let o = c .before .before .before .before .before .before .before .before .before .before .before in
-    shows-none (o .args .a) (m o) (st o) (vs o) (bytes-none (dataOf (st o)) (c .before .before .before .has-data .result) (c .before .before .before .has-data .ensures) (c .before .before .if1 .left))
-    (bytes-none (listOf (st o)) (c .before .has-sparse-data .result) (c .before .has-sparse-data .ensures) (c .if2 .left)) (c .before .before .before .before .counted .result)
-    (counted-by (o .args .a) (m o) (st o) (c .before .before .before .before .counted .result) (c .before .before .before .before .before .allowed-types .result) (c .before .before .before .before .before .allowed-types .ensures) (c .before .before .before .before .counted .ensures))
+returns-4 : tie.Need-returns-4
+returns-4 c = let o = c .before .before .before .before .before .before .before .before .before .before .before .before .before .before .before .before .before in shows-inserted (o .pre .0) (o .pre .1) (c .before .before .before .before .before .before .before .before .before .before .before .counted .ensures) (c .before .before .before .before .before .before .before .before .before .before .if1 .left) (c .before .before .before .before .before .before .before .before .enum-told4 .given .1) (c .before .before .before .before .insert-in .ensures (now (o .args .pending)))
+
+enum-told-5 : tie.Need-enum-told-5
+enum-told-5 c = search needs
+
+merge-in-requires : tie.Need-merge-in-requires
+merge-in-requires c κs =
+    let o = c .before .before .before .before .before .before .before .before .before .before .before .before in
+    merge-pre (o .pre .0) (o .pre .1) (c .before .before .before .before .before .before .counted .ensures) (⊎-elim (λ w. ap isSome (w .1 .given .1)) (λ w. ap isSome (w .1 .given .1)) (c .before .before .before .before .match .came))
+
+same-length-9 : tie.Need-same-length-9
+same-length-9 c = search needs
+
+same-length-10 : tie.Need-same-length-10
+same-length-10 c = search needs
+
+same-length-11 : tie.Need-same-length-11
+same-length-11 c = search needs
+
+same-length-12 : tie.Need-same-length-12
+same-length-12 c = search needs
+
+returns-5 : tie.Need-returns-5
+returns-5 c =
+    let o = c .before .before .before .before .before .before .before .before .before .before .before .before .before .before .before .before .before .before .before .before .before in
+    shows-merged (o .pre .0) (o .pre .1) (c .before .before .before .before .before .before .before .before .before .before .before .before .before .before .before .counted .ensures) (c .before .before .before .before .before .before .before .before .before .before .before .before .before .before .if1 .left) (⊎-elim (λ w. inl (w .1 .given .1)) (λ w. inr (w .1 .given .1)) (c .before .before .before .before .before .before .before .before .before .before .before .before .before .match .came)) (c .before .before .before .before .before .before .before .before .merge-in .ensures)
 
 pub accept-sparse-spec : {M : Type 1} → statement M
 accept-sparse-spec =
     tie.close
     (tie.spec
-    allowed-types-requires
     counted-requires
-    has-data-requires
     slice-reshare-prefix-densify-with
     slice-aggregate-densify-with
     slice-reshare-prefix-densify-with-2
     slice-aggregate-densify-with-2
-    data-requires
     densify-with-requires
     same-length
     same-length-2
     same-length-3
     returns
-    has-sparse-data-requires
-    merge-sparse-requires
+    enum-told
+    returns-2
+    enum-told-2
+    wait-requires
     same-length-4
     same-length-5
+    returns-3
+    enum-told-3
+    enum-told-4
+    slice-reshare-prefix-insert-in
+    slice-aggregate-insert-in
+    insert-in-requires
     same-length-6
     same-length-7
-    returns-2
-    returns-3)
+    same-length-8
+    returns-4
+    enum-told-5
+    merge-in-requires
+    same-length-9
+    same-length-10
+    same-length-11
+    same-length-12
+    returns-5)

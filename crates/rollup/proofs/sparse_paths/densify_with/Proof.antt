@@ -1,4 +1,4 @@
--- Both lists are set, and then the data is taken in (`row-over`).
+-- Both lists are set, and then the row is taken in (`row-over`).
 use Prim.Native.Nat.{ℕ, _≤_, _^_}
 use mathlib.Core.Path.{_≡_}
 use mathlib.Core.Bool.{true}
@@ -34,10 +34,10 @@ max-into-requires c κs =
     let a = o .args in
     let n = c .before .before .before .before .before .new .ensures in
     let room = of-pair n (λ (p s : ℕ). registerBytes p ≤ length (now (a .registers))) (o .pre .room) in
-    let size = of-pair n (λ (p s : ℕ). length (now (a .dense)) ≡ 2 ^ p) (o .pre .size) in
+    let size = of-pair n (λ (p s : ℕ). length (now (a .row)) ≡ 2 ^ p) (o .pre .size) in
     record {
       into = record { high = n .fits .pair .high; room = set-room (c .before .before .before .before .before .new .result .«normal_precision») (c .before .before .before .before .before .new .result .«sparse_precision») (now (a .registers)) room (now (a .kept) ++ now (a .waiting)) _ (c .before .before .before .set-lists .ensures) };
-      from = record { high = n .fits .pair .high; room = row-holds (c .before .before .before .before .before .new .result .«normal_precision») (now (a .dense)) size };
+      from = record { high = n .fits .pair .high; room = row-holds (c .before .before .before .before .before .new .result .«normal_precision») (now (a .row)) size };
     }
 
 densed-requires : tie.Need-densed-requires
@@ -52,10 +52,10 @@ returns c =
     let a = o .args in
     let n = c .before .before .before .before .before .before .before .before .before .new .ensures in
     let room = of-pair n (λ (p s : ℕ). registerBytes p ≤ length (now (a .registers))) (o .pre .room) in
-    let size = of-pair n (λ (p s : ℕ). length (now (a .dense)) ≡ 2 ^ p) (o .pre .size) in (
+    let size = of-pair n (λ (p s : ℕ). length (now (a .row)) ≡ 2 ^ p) (o .pre .size) in (
       c .densed .ensures,
-      at-pair n (λ (p s : ℕ). c .before .before .before .max-into .last .0 ≡ withRegisters p (larger (raisedBy p s (zeros p) (now (a .kept) ++ now (a .waiting))) (now (a .dense))) (now (a .registers)))
-          (row-over (c .before .before .before .before .before .before .before .before .before .new .result .«normal_precision») (c .before .before .before .before .before .before .before .before .before .new .result .«sparse_precision») (now (a .registers)) room (now (a .kept) ++ now (a .waiting)) (now (a .dense)) _ _ size (c .before .before .before .before .before .before .before .set-lists .ensures) (c .before .before .before .max-into .ensures)),
+      at-pair n (λ (p s : ℕ). c .before .before .before .max-into .last .0 ≡ withRegisters p (larger (raisedBy p s (zeros p) (now (a .kept) ++ now (a .waiting))) (now (a .row))) (now (a .registers)))
+          (row-over (c .before .before .before .before .before .before .before .before .before .new .result .«normal_precision») (c .before .before .before .before .before .before .before .before .before .new .result .«sparse_precision») (now (a .registers)) room (now (a .kept) ++ now (a .waiting)) (now (a .row)) _ _ size (c .before .before .before .before .before .before .before .set-lists .ensures) (c .before .before .before .max-into .ensures)),
     )
 
 pub densify-with-spec : {M : Type 1} → statement M

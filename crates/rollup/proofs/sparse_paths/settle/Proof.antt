@@ -11,16 +11,16 @@ use Rattle.rollup.proofs.sparse_paths.settle.Tie as tie
 size-limit-requires : tie.Need-size-limit-requires
 size-limit-requires c κs = search needs
 
-cast-listed : tie.Need-cast-listed
-cast-listed c = search needs
+cast-with-list : tie.Need-cast-with-list
+cast-with-list c = search needs
 
-listed-requires : tie.Need-listed-requires
-listed-requires c κs = search needs
+with-list-requires : tie.Need-with-list-requires
+with-list-requires c κs = search needs
 
 returns : tie.Need-returns
 returns c =
     let a = c .before .before .before .before .before .args in
-    settle-list (a .h) (now (a .registers)) (now (a .list)) (a .bytes) (c .before .before .size-limit .result) _ (c .before .before .size-limit .ensures .0) (c .before .if1 .taken) (c .listed .ensures)
+    settle-list (a .h) (now (a .registers)) (now (a .list)) (a .bytes) (c .before .before .size-limit .result) _ (c .before .before .size-limit .ensures .0) (c .before .if1 .taken) (c .with-list .ensures)
 
 set-list-requires : tie.Need-set-list-requires
 set-list-requires c κs = search needs
@@ -43,8 +43,8 @@ settle-spec =
     tie.close
     (tie.spec
     size-limit-requires
-    cast-listed
-    listed-requires
+    cast-with-list
+    with-list-requires
     returns
     set-list-requires
     densed-requires

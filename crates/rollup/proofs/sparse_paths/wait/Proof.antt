@@ -11,8 +11,8 @@ use Rattle.rollup.specs.Taking.{withList}
 copy-run-requires : tie.Need-copy-run-requires
 copy-run-requires c κs = search needs
 
-listed-requires : tie.Need-listed-requires
-listed-requires c κs = search needs
+with-list-requires : tie.Need-with-list-requires
+with-list-requires c κs = search needs
 
 same-length : tie.Need-same-length
 same-length c = search needs
@@ -22,9 +22,9 @@ returns c =
     let o = c .before .before .before .before .before .before .before in
     let h = o .args .h in
     let e : c .before .before .before .copy-run .result ≡ h .«pending_len» + o .args .k = omega (arith, c .before .before .before .copy-run .ensures .0) in (
-      c .listed .ensures ∙ ap (λ (n : ℕ). listed h (h .«sparse_size») (h .«sparse_len») (h .«sparse_bytes») n) e,
+      c .with-list .ensures ∙ ap (λ (n : ℕ). withList h (h .«sparse_size») (h .«sparse_len») (h .«sparse_bytes») n) e,
       copied (h .«pending_len») (o .args .k) (c .before .before .before .copy-run .result) _ _ (c .before .before .before .copy-run .ensures .0) (c .before .before .before .copy-run .ensures .1),
     )
 
 pub wait-spec : {M : Type 1} → statement M
-wait-spec = tie.close (tie.spec copy-run-requires listed-requires same-length returns)
+wait-spec = tie.close (tie.spec copy-run-requires with-list-requires same-length returns)
