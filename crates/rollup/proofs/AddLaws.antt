@@ -126,8 +126,8 @@ module _ {a : Accumulator} {distinct : Bool} {m : Mem} {scratch : List ℕ} {st 
   accept-kept = fit-kept a m (pre .taken .fit)
 
   module _ (x : Incoming) (list : List ℕ) (there : list ≡ listOf st) (numbers : x ≡ numbersOf st (length list) k) where
-    is-state : x ≡ stateNumbers st vs
-    is-state = numbers ∙ ap₂ (numbersOf st) (ap length there) (sym count)
+    the-state : x ≡ stateNumbers st vs
+    the-state = numbers ∙ ap₂ (numbersOf st) (ap length there) (sym count)
 
     pub accept-path : PathPre a x (keptOf a m) k distinct
     accept-path f =
@@ -139,7 +139,7 @@ module _ {a : Accumulator} {distinct : Bool} {m : Mem} {scratch : List ℕ} {st 
                 high = s .pair .high;
                 bytes = s .bytes-high;
                 few = s .few;
-                growth = subst (λ (y : Incoming). y .growth ≤ 5 * 2147483647) (sym is-state) (pre .taken .growth-high);
+                growth = subst (λ (y : Incoming). y .growth ≤ 5 * 2147483647) (sym the-state) (pre .taken .growth-high);
                 incoming = accept-few;
               };
           insert = record { pair = s .pair; order = s .order; all = s .kept-valid; known = pre .known };
@@ -151,7 +151,7 @@ module _ {a : Accumulator} {distinct : Bool} {m : Mem} {scratch : List ℕ} {st 
           record {
             inside = pre .inside;
             taken =
-                subst (λ (y : Incoming). TakePre a m (length scratch) y row vs) (sym is-state)
+                subst (λ (y : Incoming). TakePre a m (length scratch) y row vs) (sym the-state)
                 (subst (λ (l : List ℕ). TakePre a m (length scratch) (stateNumbers st vs) l vs) (sym same) (pre .taken));
             its = its;
           }
@@ -160,7 +160,7 @@ module _ {a : Accumulator} {distinct : Bool} {m : Mem} {scratch : List ℕ} {st 
           → Shows (takenAfter (a .form) a m x row vs) r n → AcceptPost a m st vs (record { answer = 0; head = r; distinct = known }) n
       accept-post r n known e shows =
           let shown : Shows (acceptedAfter (a .form) a m st vs) r n =
-          subst (λ (y : Incoming). Shows (takenAfter (a .form) a m y (dataOf st) vs) r n) is-state
+          subst (λ (y : Incoming). Shows (takenAfter (a .form) a m y (dataOf st) vs) r n) the-state
           (subst (λ (l : List ℕ). Shows (takenAfter (a .form) a m x l vs) r n) same shows) in
           record {
             answer = refl;
@@ -168,7 +168,7 @@ module _ {a : Accumulator} {distinct : Bool} {m : Mem} {scratch : List ℕ} {st 
             known =
                 subst (λ (b : Bool). KnownDistinct b (r .precision) (r .«sparse_precision») (keptOf r n)) (sym e)
                 (distinct-after (pre .taken) distinct (pre .known) path
-                (its ∙ ap₂ (λ (y : Incoming) (j : ℕ). pathOf (a .form) a (keptOf a m) y j) is-state (sym count)) r n shown);
+                (its ∙ ap₂ (λ (y : Incoming) (j : ℕ). pathOf (a .form) a (keptOf a m) y j) the-state (sym count)) r n shown);
           }
 
 -- ---- the stages, as the code has them

@@ -13,17 +13,17 @@ sparse-data-requires : tie.Need-sparse-data-requires
 sparse-data-requires c κs = search needs
 
 state-numbers-requires : tie.Need-state-numbers-requires
-state-numbers-requires c κs = accept-few (@START .pre)
+state-numbers-requires c κs = accept-few (c .before .before .before .before .before .before .pre)
 
 slice-reshare-prefix-path-of : tie.Need-slice-reshare-prefix-path-of
-slice-reshare-prefix-path-of c = accept-kept (@START .pre)
+slice-reshare-prefix-path-of c = accept-kept (c .before .before .before .before .before .before .before .pre)
 
 slice-aggregate-path-of : tie.Need-slice-aggregate-path-of
-slice-aggregate-path-of c = let o = @START in sym (length-take-le (o .args .a .«sparse_len») (now (o .args .sparse)) (accept-kept (o .pre)))
+slice-aggregate-path-of c = let o = c .before .before .before .before .before .before .before .before in sym (length-take-le (o .args .a .«sparse_len») (now (o .args .sparse)) (accept-kept (o .pre)))
 
 path-of-requires : tie.Need-path-of-requires
 path-of-requires c κs =
-    let o = @START in accept-path (o .pre) (@state-numbers .result) _ (@sparse-data .ensures) (@state-numbers .ensures (now (o .args .bytes)))
+    let o = c .before .before .before .before .before .before .before .before in accept-path (o .pre) (c .before .state-numbers .result) _ (c .before .before .sparse-data .ensures) (c .before .state-numbers .ensures (now (o .args .bytes)))
 
 distinct-after-requires : tie.Need-distinct-after-requires
 distinct-after-requires c κs = search needs
@@ -33,9 +33,9 @@ data-requires c κs = search needs
 
 take-requires : tie.Need-take-requires
 take-requires c κs =
-    let o = @START in
-    accept-taking (o .pre) (@state-numbers .result) _ (@sparse-data .ensures) (@state-numbers .ensures (now (o .args .bytes))) (@path-of .result) (@path-of .ensures) _
-    (@data .ensures)
+    let o = c .before .before .before .before .before .before .before .before .before .before .before .before .before .before .before in
+    accept-taking (o .pre) (c .before .before .before .before .before .before .before .before .state-numbers .result) _ (c .before .before .before .before .before .before .before .before .before .sparse-data .ensures) (c .before .before .before .before .before .before .before .before .state-numbers .ensures (now (o .args .bytes))) (c .before .before .before .before .before .before .path-of .result) (c .before .before .before .before .before .before .path-of .ensures) _
+    (c .before .before .before .before .«data» .ensures)
 
 same-length : tie.Need-same-length
 same-length c = search needs
@@ -51,9 +51,9 @@ same-length-4 c = search needs
 
 returns : tie.Need-returns
 returns c =
-    let o = @START in
-    accept-post (o .pre) (@state-numbers .result) _ (@sparse-data .ensures) (@state-numbers .ensures (now (o .args .bytes))) (@path-of .result) (@path-of .ensures) _
-    (@data .ensures) (@take .result) _ (@distinct-after .result) (@distinct-after .ensures) (@take .ensures)
+    let o = c .before .before .before .before .before .before .before .before .before .before .before .before .before .before .before .before .before .before .before .before .before .before .before .before in
+    accept-post (o .pre) (c .before .before .before .before .before .before .before .before .before .before .before .before .before .before .before .before .before .state-numbers .result) _ (c .before .before .before .before .before .before .before .before .before .before .before .before .before .before .before .before .before .before .sparse-data .ensures) (c .before .before .before .before .before .before .before .before .before .before .before .before .before .before .before .before .before .state-numbers .ensures (now (o .args .bytes))) (c .before .before .before .before .before .before .before .before .before .before .before .before .before .before .before .path-of .result) (c .before .before .before .before .before .before .before .before .before .before .before .before .before .before .before .path-of .ensures) _
+    (c .before .before .before .before .before .before .before .before .before .before .before .before .before .«data» .ensures) (c .before .before .before .before .before .before .before .before .take .result) _ (c .before .before .before .before .before .before .before .before .before .before .before .before .before .before .distinct-after .result) (c .before .before .before .before .before .before .before .before .before .before .before .before .before .before .distinct-after .ensures) (c .before .before .before .before .before .before .before .before .take .ensures)
 
 pub accept-spec : {M : Type 1} → statement M
 accept-spec =

@@ -2,7 +2,7 @@
 use Prim.Native.Nat.{ℕ}
 use lib.ListN.{length}
 use denote.Ref.{now}
-use Rattle.wire.proofs.BoolLaws.{said-yes, said-no}
+use Rattle.wire.proofs.BoolLaws.{never, said-yes, said-no}
 use Rattle.rollup.specs.Accumulator.{Mem, mem}
 use Rattle.rollup.proofs.AddLaws.{add-unfit, refused-post}
 use borrow.Author.Needs.{needs}
@@ -32,7 +32,7 @@ returns : tie.Need-returns
 returns c = let o = c .before .before .before .before .before .before .before .before .before .before in refused-post (o .args .a) (m o) (room o) (now (o .args .bytes)) 1 (add-unfit (o .args .a) (m o) (room o) (now (o .args .bytes)) (said-no (c .before .fits2 .ensures) (c .if1 .taken)))
 
 add-fitting-requires : tie.Need-add-fitting-requires
-add-fitting-requires c κs = said-yes (c .before .before .before .before .before .fits2 .ensures) (c .before .before .before .before .if1 .left)
+add-fitting-requires c κs = record { fit = said-yes (c .before .before .before .before .before .fits2 .ensures) (c .before .before .before .before .if1 .left); known = never }
 
 same-length-4 : tie.Need-same-length-4
 same-length-4 c = search needs

@@ -1,15 +1,13 @@
--- Each question that is refused leaves all as it was, and what is known with it; after the last one the path's promise is the outcome's.
+-- Each question that is answered with no leaves all as it was; else what the accepted state leaves is what adding was to leave.
 use Prim.Native.Nat.{ℕ}
 use lib.ListN.{length}
 use denote.Ref.{now}
 use Rattle.wire.proofs.BoolLaws.{said-yes, said-no}
-use Rattle.wire.specs.State.{stateOf}
 use Rattle.rollup.specs.Accumulator.{Mem, mem}
 use Rattle.rollup.proofs.AddLaws.{judge-stop, room-pre, room-stop, list-pre, list-stop, accept-pre, all-accepted}
-use Rattle.rollup.proofs.KnowingLaws.{still-after}
 use borrow.Author.Needs.{needs}
-use Rattle.rollup.proofs.adding.add_knowing.Statement.{statement}
-use Rattle.rollup.proofs.adding.add_knowing.Tie as tie
+use Rattle.rollup.proofs.adding.add_fitting.Statement.{statement}
+use Rattle.rollup.proofs.adding.add_fitting.Tie as tie
 
 -- The memory and the room as the call gets them.
 abbrev m : tie.Start → Mem
@@ -31,10 +29,19 @@ judged-refusal-requires : tie.Need-judged-refusal-requires
 judged-refusal-requires c κs = search needs
 
 returns : tie.Need-returns
-returns c = let o = c .before .before .before .before .before .before .before .before .before in record { added = judge-stop (o .args .a) (m o) (room o) (now (o .args .bytes)) (o .pre .0) (c .before .before .before .judge .result) (c .judged-refusal .result) _ (c .before .enum-told .given .1) (c .before .before .before .judge .ensures) (c .judged-refusal .ensures); known = o .pre .1 }
+returns c =
+    let o = c .before .before .before .before .before .before .before .before .before in
+    record {
+      added =
+          judge-stop (o .args .a) (m o) (room o) (now (o .args .bytes)) (o .pre .fit) (c .before .before .before .judge .result) (c .judged-refusal .result) _ (c .before .enum-told .given .1) (c .before .before .before .judge .ensures)
+          (c .judged-refusal .ensures);
+      sound = o .pre;
+    }
 
 has-room-requires : tie.Need-has-room-requires
-has-room-requires c κs = let o = c .before .before .before .before .before .before .before .before .before .before .before .before .before in room-pre (o .args .a) (m o) (room o) (now (o .args .bytes)) (o .pre .0) (c .before .before .before .before .before .before .before .judge .result) (c .before .before .before .before .before .judged .given .0 .0) (c .before .before .before .before .before .judged .given .1) (c .before .before .before .before .before .before .before .judge .ensures)
+has-room-requires c κs =
+    let o = c .before .before .before .before .before .before .before .before .before .before .before .before .before in
+    room-pre (o .args .a) (m o) (room o) (now (o .args .bytes)) (o .pre .fit) (c .before .before .before .before .before .before .before .judge .result) (c .before .before .before .before .before .judged .given .0 .0) (c .before .before .before .before .before .judged .given .1) (c .before .before .before .before .before .before .before .judge .ensures)
 
 same-length : tie.Need-same-length
 same-length c = search needs
@@ -49,10 +56,20 @@ same-length-4 : tie.Need-same-length-4
 same-length-4 c = search needs
 
 returns-2 : tie.Need-returns-2
-returns-2 c = let o = c .before .before .before .before .before .before .before .before .before .before .before .before .before .before .before in record { added = room-stop (o .args .a) (m o) (room o) (now (o .args .bytes)) (o .pre .0) (c .before .before .before .before .before .before .before .before .before .judge .result) (c .before .before .before .before .before .before .before .judged .given .0 .0) (c .before .before .before .before .before .before .before .judged .given .1) (c .before .before .before .before .before .before .before .before .before .judge .ensures) (said-no (c .before .has-room .ensures) (c .if1 .taken)); known = o .pre .1 }
+returns-2 c =
+    let o = c .before .before .before .before .before .before .before .before .before .before .before .before .before .before .before in
+    record {
+      added =
+          room-stop (o .args .a) (m o) (room o) (now (o .args .bytes)) (o .pre .fit) (c .before .before .before .before .before .before .before .before .before .judge .result) (c .before .before .before .before .before .before .before .judged .given .0 .0) (c .before .before .before .before .before .before .before .judged .given .1) (c .before .before .before .before .before .before .before .before .before .judge .ensures)
+          (said-no (c .before .has-room .ensures) (c .if1 .taken));
+      sound = o .pre;
+    }
 
 decode-listed-requires : tie.Need-decode-listed-requires
-decode-listed-requires c κs = let o = c .before .before .before .before .before .before .before .before .before .before .before .before .before .before .before .before in list-pre (o .args .a) (m o) (room o) (now (o .args .bytes)) (o .pre .0) (c .before .before .before .before .before .before .before .before .before .before .judge .result) (c .before .before .before .before .before .before .before .before .judged .given .0 .0) (c .before .before .before .before .before .before .before .before .judged .given .1) (c .before .before .before .before .before .before .before .before .before .before .judge .ensures) (said-yes (c .before .before .has-room .ensures) (c .before .if1 .left))
+decode-listed-requires c κs =
+    let o = c .before .before .before .before .before .before .before .before .before .before .before .before .before .before .before .before in
+    list-pre (o .args .a) (m o) (room o) (now (o .args .bytes)) (o .pre .fit) (c .before .before .before .before .before .before .before .before .before .before .judge .result) (c .before .before .before .before .before .before .before .before .judged .given .0 .0) (c .before .before .before .before .before .before .before .before .judged .given .1) (c .before .before .before .before .before .before .before .before .before .before .judge .ensures)
+    (said-yes (c .before .before .has-room .ensures) (c .before .if1 .left))
 
 enum-known-read : tie.Need-enum-known-read
 enum-known-read c = search needs
@@ -76,13 +93,22 @@ same-length-8 : tie.Need-same-length-8
 same-length-8 c = search needs
 
 returns-3 : tie.Need-returns-3
-returns-3 c = let o = c .before .before .before .before .before .before .before .before .before .before .before .before .before .before .before .before .before .before .before .before .before .before in record { added = list-stop (o .args .a) (m o) (room o) (now (o .args .bytes)) (o .pre .0) (c .before .before .before .before .before .before .before .before .before .before .before .before .before .before .before .before .judge .result) (c .before .before .before .before .before .before .before .before .before .before .before .before .before .before .judged .given .0 .0) (c .before .before .before .before .before .before .before .before .before .before .before .before .before .before .judged .given .1) (c .before .before .before .before .before .before .before .before .before .before .before .before .before .before .before .before .judge .ensures) (said-yes (c .before .before .before .before .before .before .before .before .has-room .ensures) (c .before .before .before .before .before .before .before .if1 .left)) (c .before .before .before .before .before .decode-listed .result) (c .decoded-refusal .result) _ (c .before .before .before .before .before .decode-listed .last .1 .1 .0) (c .before .enum-told2 .given .1) (c .before .before .before .before .before .decode-listed .ensures) (c .decoded-refusal .ensures); known = o .pre .1 }
+returns-3 c =
+    let o = c .before .before .before .before .before .before .before .before .before .before .before .before .before .before .before .before .before .before .before .before .before .before in
+    record {
+      added =
+          list-stop (o .args .a) (m o) (room o) (now (o .args .bytes)) (o .pre .fit) (c .before .before .before .before .before .before .before .before .before .before .before .before .before .before .before .before .judge .result) (c .before .before .before .before .before .before .before .before .before .before .before .before .before .before .judged .given .0 .0) (c .before .before .before .before .before .before .before .before .before .before .before .before .before .before .judged .given .1) (c .before .before .before .before .before .before .before .before .before .before .before .before .before .before .before .before .judge .ensures)
+          (said-yes (c .before .before .before .before .before .before .before .before .has-room .ensures) (c .before .before .before .before .before .before .before .if1 .left)) (c .before .before .before .before .before .decode-listed .result) (c .decoded-refusal .result) _ (c .before .before .before .before .before .decode-listed .last .1 .1 .0) (c .before .enum-told2 .given .1)
+          (c .before .before .before .before .before .decode-listed .ensures) (c .decoded-refusal .ensures);
+      sound = o .pre;
+    }
 
 accept-requires : tie.Need-accept-requires
-accept-requires c κs = let o = c .before .before .before .before .before .before .before .before .before .before .before .before .before .before .before .before .before .before .before .before .before .before .before .before .before .before in (accept-pre (o .args .a) (m o) (room o) (now (o .args .bytes)) (o .pre .0) (c .before .before .before .before .before .before .before .before .before .before .before .before .before .before .before .before .before .before .before .before .judge .result) (c .before .before .before .before .before .before .before .before .before .before .before .before .before .before .before .before .before .before .judged .given .0 .0) (c .before .before .before .before .before .before .before .before .before .before .before .before .before .before .before .before .before .before .judged .given .1) (c .before .before .before .before .before .before .before .before .before .before .before .before .before .before .before .before .before .before .before .before .judge .ensures) (said-yes (c .before .before .before .before .before .before .before .before .before .before .before .before .has-room .ensures) (c .before .before .before .before .before .before .before .before .before .before .before .if1 .left)) (c .before .before .before .before .before .before .before .before .before .decode-listed .result) (c .before .before .before .before .before .read .given .0 .0) (c .before .before .before .before .before .before .before .before .before .decode-listed .last .1 .1 .0) (c .before .before .before .before .before .read .given .1) (c .before .before .before .before .before .before .before .before .before .decode-listed .ensures) (c .before .before .before .before .before .before .before .before .before .decode-listed .kept .1 .1 .0), o .pre .1)
-
-still-distinct-requires : tie.Need-still-distinct-requires
-still-distinct-requires c κs = search needs
+accept-requires c κs =
+    let o = c .before .before .before .before .before .before .before .before .before .before .before .before .before .before .before .before .before .before .before .before .before .before .before .before .before .before in
+    accept-pre (o .args .a) (m o) (room o) (now (o .args .bytes)) (o .pre .fit) (c .before .before .before .before .before .before .before .before .before .before .before .before .before .before .before .before .before .before .before .before .judge .result) (c .before .before .before .before .before .before .before .before .before .before .before .before .before .before .before .before .before .before .judged .given .0 .0) (c .before .before .before .before .before .before .before .before .before .before .before .before .before .before .before .before .before .before .judged .given .1) (c .before .before .before .before .before .before .before .before .before .before .before .before .before .before .before .before .before .before .before .before .judge .ensures)
+    (said-yes (c .before .before .before .before .before .before .before .before .before .before .before .before .has-room .ensures) (c .before .before .before .before .before .before .before .before .before .before .before .if1 .left)) (c .before .before .before .before .before .before .before .before .before .decode-listed .result) (c .before .before .before .before .before .read .given .0 .0) (c .before .before .before .before .before .before .before .before .before .decode-listed .last .1 .1 .0) (c .before .before .before .before .before .read .given .1) (c .before .before .before .before .before .before .before .before .before .decode-listed .ensures)
+    (c .before .before .before .before .before .before .before .before .before .decode-listed .kept .1 .1 .0) (o .args .distinct) (o .pre .known)
 
 same-length-9 : tie.Need-same-length-9
 same-length-9 c = search needs
@@ -97,10 +123,15 @@ same-length-12 : tie.Need-same-length-12
 same-length-12 c = search needs
 
 returns-4 : tie.Need-returns-4
-returns-4 c = let o = c .before .before .before .before .before .before .before .before .before .before .before .before .before .before .before .before .before .before .before .before .before .before .before .before .before .before .before .before .before .before .before .before .before .before .before .before in record { added = all-accepted (o .args .a) (m o) (room o) (now (o .args .bytes)) (o .pre .0) (c .before .before .before .before .before .before .before .before .before .before .before .before .before .before .before .before .before .before .before .before .before .before .before .before .before .before .before .before .before .before .judge .result) (c .before .before .before .before .before .before .before .before .before .before .before .before .before .before .before .before .before .before .before .before .before .before .before .before .before .before .before .before .judged .given .0 .0) (c .before .before .before .before .before .before .before .before .before .before .before .before .before .before .before .before .before .before .before .before .before .before .before .before .before .before .before .before .judged .given .1) (c .before .before .before .before .before .before .before .before .before .before .before .before .before .before .before .before .before .before .before .before .before .before .before .before .before .before .before .before .before .before .judge .ensures) (said-yes (c .before .before .before .before .before .before .before .before .before .before .before .before .before .before .before .before .before .before .before .before .before .before .has-room .ensures) (c .before .before .before .before .before .before .before .before .before .before .before .before .before .before .before .before .before .before .before .before .before .if1 .left)) (c .before .before .before .before .before .before .before .before .before .before .before .before .before .before .before .before .before .before .before .decode-listed .result) (c .before .before .before .before .before .before .before .before .before .before .before .before .before .before .before .read .given .0 .0) (c .before .before .before .before .before .before .before .before .before .before .before .before .before .before .before .before .before .before .before .decode-listed .last .1 .1 .0) (c .before .before .before .before .before .before .before .before .before .before .before .before .before .before .before .read .given .1) (c .before .before .before .before .before .before .before .before .before .before .before .before .before .before .before .before .before .before .before .decode-listed .ensures) (c .before .before .before .before .before .before .before .before .before .before .before .before .before .before .before .before .before .before .before .decode-listed .kept .1 .1 .0) (c .before .before .before .before .before .before .before .before .before .accept .result) _ (c .before .before .before .before .before .before .before .before .before .accept .ensures) (record { registers = c .before .before .before .before .before .before .before .before .before .accept .kept .1 .1 .1 .0; sparse = c .before .before .before .before .before .before .before .before .before .accept .kept .1 .1 .1 .1 .0; pending = c .before .before .before .before .before .before .before .before .before .accept .kept .1 .1 .1 .1 .1 .0 }); known = still-after (o .args .a) (m o) (stateOf (now (o .args .bytes)) (c .before .before .before .before .before .before .before .before .before .before .before .before .before .before .before .before .before .before .before .before .before .before .before .before .before .before .before .before .judged .given .0 .0)) (c .before .before .before .before .before .before .before .before .before .before .before .before .before .before .before .before .before .before .before .decode-listed .last .1 .1 .0) (c .before .before .before .before .before .before .before .before .before .before .before .before .before .before .before .read .given .0 .0) (o .args .distinct) (o .pre .1) (accept-requires (c .before .before .before .before .before .before .before .before .before .before) (c .before .before .before .before .before .before .before .before .before .accept .lifetimes) .0) (c .before .before .before .before .before .before .before .before .before .accept .result) _ (c .before .before .before .before .before .before .before .before .before .accept .ensures) (c .still-distinct .result) (c .still-distinct .ensures) }
+returns-4 c =
+    let o = c .before .before .before .before .before .before .before .before .before .before .before .before .before .before .before .before .before .before .before .before .before .before .before .before .before .before .before .before .before .before .before .before .before .before .before in
+    all-accepted (o .args .a) (m o) (room o) (now (o .args .bytes)) (o .pre .fit) (c .before .before .before .before .before .before .before .before .before .before .before .before .before .before .before .before .before .before .before .before .before .before .before .before .before .before .before .before .before .judge .result) (c .before .before .before .before .before .before .before .before .before .before .before .before .before .before .before .before .before .before .before .before .before .before .before .before .before .before .before .judged .given .0 .0) (c .before .before .before .before .before .before .before .before .before .before .before .before .before .before .before .before .before .before .before .before .before .before .before .before .before .before .before .judged .given .1) (c .before .before .before .before .before .before .before .before .before .before .before .before .before .before .before .before .before .before .before .before .before .before .before .before .before .before .before .before .before .judge .ensures)
+    (said-yes (c .before .before .before .before .before .before .before .before .before .before .before .before .before .before .before .before .before .before .before .before .before .has-room .ensures) (c .before .before .before .before .before .before .before .before .before .before .before .before .before .before .before .before .before .before .before .before .if1 .left)) (c .before .before .before .before .before .before .before .before .before .before .before .before .before .before .before .before .before .before .decode-listed .result) (c .before .before .before .before .before .before .before .before .before .before .before .before .before .before .read .given .0 .0) (c .before .before .before .before .before .before .before .before .before .before .before .before .before .before .before .before .before .before .decode-listed .last .1 .1 .0) (c .before .before .before .before .before .before .before .before .before .before .before .before .before .before .read .given .1) (c .before .before .before .before .before .before .before .before .before .before .before .before .before .before .before .before .before .before .decode-listed .ensures)
+    (c .before .before .before .before .before .before .before .before .before .before .before .before .before .before .before .before .before .before .decode-listed .kept .1 .1 .0) (c .before .before .before .before .before .before .before .before .accept .result) _ (c .before .before .before .before .before .before .before .before .accept .ensures)
+    (record { registers = c .before .before .before .before .before .before .before .before .accept .kept .1 .1 .1 .1 .0; sparse = c .before .before .before .before .before .before .before .before .accept .kept .1 .1 .1 .1 .1 .0; pending = c .before .before .before .before .before .before .before .before .accept .kept .1 .1 .1 .1 .1 .1 .0 })
 
-pub add-knowing-spec : {M : Type 1} → statement M
-add-knowing-spec =
+pub add-fitting-spec : {M : Type 1} → statement M
+add-fitting-spec =
     tie.close
     (tie.spec
     judge-requires
@@ -124,7 +155,6 @@ add-knowing-spec =
     same-length-8
     returns-3
     accept-requires
-    still-distinct-requires
     same-length-9
     same-length-10
     same-length-11
