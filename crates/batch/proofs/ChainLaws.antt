@@ -304,6 +304,7 @@ module _ (batch : List ℕ) (first : Mem) (room before at k : ℕ) (a : Accumula
             ∙ f);
         run = subst (λ (l : List (List ℕ)). Run first (addedAll room l (take k answers) []) a m) (sym front) (g .run);
         untouched = g .untouched;
+        cells = g .long;
         free = g .free;
       }
 
@@ -331,6 +332,7 @@ module _ (batch : List ℕ) (first : Mem) (room before at k : ℕ) (a : Accumula
                 (lt-leb (length (chainOf batch .indices)) (length old) many));
             run = subst (λ (l : List (List ℕ)). Run first (addedAll room l (take k answers) []) a m) (sym front) (g .run);
             untouched = g .untouched;
+            cells = g .long;
             free = g .free;
           }
 
@@ -373,6 +375,7 @@ no-batch batch m room a old answers e f same =
       ending = sym (ap (λ (c : Chain). endingFor c (length old)) whole ∙ ap (λ (t : Bool). cond t (Refused 24) Full) (le-leb 0 (length old) (omega arith)));
       run = subst (λ (l : List (List ℕ)). Run m (addedAll room l (take 0 answers) []) a m) (sym none) (subst (λ (h : Accumulator). Run m [] h m) (sym f) begun);
       untouched = same;
+      cells = ap length same;
       free = same-cells m;
     }
   where

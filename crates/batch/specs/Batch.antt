@@ -34,4 +34,5 @@ pub record RolledPost (batch : List ℕ) (first : Mem) (room : ℕ) (r : Rolled)
   pub ending : r .ending ≡ endingFor (chainOf batch) (length old)
   pub run : Run first (addedAll room (statesFor batch (length old)) (take (r .records) answers) []) (r .head) m
   pub untouched : drop (r .records) answers ≡ drop (r .records) old
+  pub cells : length answers ≡ length old
   pub free : Free first m

@@ -4,9 +4,10 @@ use mathlib.Core.Path.{_≡_, refl, ap, _∙_, subst}
 use native.Mathlib.Omega.{arith}
 use lib.ListN.{length, take, drop, length-set}
 use denote.Ref.{now}
-use Rattle.wire.proofs.BoolLaws.{said-yes, said-no}
+use Rattle.wire.proofs.BoolLaws.{never, said-yes, said-no}
 use Rattle.rollup.specs.Accumulator.{Mem, mem}
 use Rattle.rollup.specs.Adding.{AddPost}
+use Rattle.rollup.specs.Paths.{KnownDistinct}
 use Rattle.batch.specs.Chain.{lengthAt}
 use Rattle.rollup.proofs.ViewLaws.{run-fits}
 use Rattle.lists.proofs.RegisterLaws.{not-yet}
@@ -16,16 +17,17 @@ use Rattle.batch.proofs.records.add_records.Statement.{statement}
 use Rattle.batch.proofs.records.add_records.Tie as tie
 
 abbrev Inv-loop : tie.InvT-loop
-Inv-loop batch registers₀ sparse₀ pending₀ scratch₀ answers₀ head₀ before₀ at₀ k₀ registers sparse pending scratch answers head before at k =
+Inv-loop batch registers₀ sparse₀ pending₀ scratch₀ answers₀ head₀ distinct₀ before₀ at₀ k₀ registers sparse pending scratch answers head distinct before at k =
     Going batch (mem registers₀ sparse₀ pending₀) (length scratch₀) before at k head (mem registers sparse pending) answers₀ answers
     × (length registers ≡ length registers₀)
     × (length sparse ≡ length sparse₀)
     × (length pending ≡ length pending₀)
     × (length scratch ≡ length scratch₀)
     × (length answers ≡ length answers₀)
+    × KnownDistinct distinct (head .precision) (head .«sparse_precision») (take (head .«sparse_len») sparse)
 
 abbrev μ-loop : tie.MeasureT-loop
-μ-loop batch registers₀ sparse₀ pending₀ scratch₀ answers₀ head₀ before₀ at₀ k₀ registers sparse pending scratch answers head before at k =
+μ-loop batch registers₀ sparse₀ pending₀ scratch₀ answers₀ head₀ distinct₀ before₀ at₀ k₀ registers sparse pending scratch answers head distinct before at k =
     length batch - before
 
 -- The memory as the call gets it.
@@ -39,7 +41,7 @@ word-at-requires : tie.Need-word-at-requires Inv-loop μ-loop
 word-at-requires c κs = omega (arith, (batch-size (now (c .before .before .before .before .before .before .before .args .batch)) (c .before .before .before .before .before .before .before .pre)) .0)
 
 loop-holds : tie.Need-loop-holds Inv-loop μ-loop
-loop-holds c = let o = c .before .before .before .before .before .before .before .before in (going-start (now (o .args .batch)) (m o) (length (now (o .args .scratch))) (c .word-at .result) (c .before .new .result) (now (o .args .answers)) (now (o .args .answers)) (o .pre) (c .word-at .ensures .0) (c .before .new .ensures) refl, refl, refl, refl, refl, refl)
+loop-holds c = let o = c .before .before .before .before .before .before .before .before in (going-start (now (o .args .batch)) (m o) (length (now (o .args .scratch))) (c .word-at .result) (c .before .new .result) (now (o .args .answers)) (now (o .args .answers)) (o .pre) (c .word-at .ensures .0) (c .before .new .ensures) refl, refl, refl, refl, refl, refl, never)
 
 is-record-requires : tie.Need-is-record-requires Inv-loop μ-loop
 is-record-requires c κs = search needs
@@ -102,7 +104,7 @@ part-add-fitting-end : tie.Need-part-add-fitting-end Inv-loop μ-loop
 part-add-fitting-end c = omega (arith, (record-inside (now (c .before .before .before .before .before .before .before .before .before .before .before .before .before .before .before .before .before .before .args .batch)) (c .before .before .before .before .before .before .before .before .before .loop .before) (c .before .before .before .before .before .before .before .before .before .loop .at) (said-yes (c .before .before .before .before .before .before .before .is-record .ensures) (c .before .before .before .before .before .before .if1 .left))) .inside, c .before .before .before .before .word-at2 .ensures .0)
 
 add-fitting-requires : tie.Need-add-fitting-requires Inv-loop μ-loop
-add-fitting-requires c κs = run-fits (c .before .before .before .before .before .before .before .before .before .before .loop .inv .0 .run)
+add-fitting-requires c κs = record { fit = run-fits (c .before .before .before .before .before .before .before .before .before .before .loop .inv .0 .run); known = c .before .before .before .before .before .before .before .before .before .before .loop .inv .6 }
 
 slice-write-answers : tie.Need-slice-write-answers Inv-loop μ-loop
 slice-write-answers c = search needs
@@ -117,7 +119,7 @@ loop-less : tie.Need-loop-less Inv-loop μ-loop
 loop-less c = omega (arith, (record-inside (now (c .before .before .before .before .before .before .before .before .before .before .before .before .before .before .before .before .before .before .before .before .before .before .before .before .before .before .before .before .before .before .args .batch)) (c .before .before .before .before .before .before .before .before .before .before .before .before .before .before .before .before .before .before .before .before .before .loop .before) (c .before .before .before .before .before .before .before .before .before .before .before .before .before .before .before .before .before .before .before .before .before .loop .at) (said-yes (c .before .before .before .before .before .before .before .before .before .before .before .before .before .before .before .before .before .before .before .is-record .ensures) (c .before .before .before .before .before .before .before .before .before .before .before .before .before .before .before .before .before .before .if1 .left))) .above, (record-inside (now (c .before .before .before .before .before .before .before .before .before .before .before .before .before .before .before .before .before .before .before .before .before .before .before .before .before .before .before .before .before .before .args .batch)) (c .before .before .before .before .before .before .before .before .before .before .before .before .before .before .before .before .before .before .before .before .before .loop .before) (c .before .before .before .before .before .before .before .before .before .before .before .before .before .before .before .before .before .before .before .before .before .loop .at) (said-yes (c .before .before .before .before .before .before .before .before .before .before .before .before .before .before .before .before .before .before .before .is-record .ensures) (c .before .before .before .before .before .before .before .before .before .before .before .before .before .before .before .before .before .before .if1 .left))) .inside)
 
 loop-again : tie.Need-loop-again Inv-loop μ-loop
-loop-again c = let o = c .before .before .before .before .before .before .before .before .before .before .before .before .before .before .before .before .before .before .before .before .before .before .before .before .before .before .before .before .before .before in (going-turn (now (o .args .batch)) (m o) (length (now (o .args .scratch))) (c .before .before .before .before .before .before .before .before .before .before .before .before .before .before .before .before .before .before .before .before .before .loop .before) (c .before .before .before .before .before .before .before .before .before .before .before .before .before .before .before .before .before .before .before .before .before .loop .at) (c .before .before .before .before .before .before .before .before .before .before .before .before .before .before .before .before .before .before .before .before .before .loop .k) (c .before .before .before .before .before .before .before .before .before .before .before .before .before .before .before .before .before .before .before .before .before .loop .head) (mem (c .before .before .before .before .before .before .before .before .before .before .before .before .before .before .before .before .before .before .before .before .before .loop .registers) (c .before .before .before .before .before .before .before .before .before .before .before .before .before .before .before .before .before .before .before .before .before .loop .sparse) (c .before .before .before .before .before .before .before .before .before .before .before .before .before .before .before .before .before .before .before .before .before .loop .pending)) (now (o .args .answers)) (c .before .before .before .before .before .before .before .before .before .before .before .before .before .before .before .before .before .before .before .before .before .loop .answers) (c .before .before .before .before .before .before .before .before .before .before .before .before .before .before .before .before .before .before .before .before .before .loop .inv .0) (c .before .before .before .before .before .before .before .before .before .before .before .before .before .before .before .before .before .before .before .before .loop-test .taken) (said-yes (c .before .before .before .before .before .before .before .before .before .before .before .before .before .before .before .before .before .before .before .is-record .ensures) (c .before .before .before .before .before .before .before .before .before .before .before .before .before .before .before .before .before .before .if1 .left)) (c .word-at3 .result) (take (c .before .before .before .before .before .before .before .before .before .before .before .before .before .before .before .before .before .before .before .before .before .loop .at + 8 + c .before .before .before .before .before .before .before .before .before .before .before .before .before .before .before .before .word-at2 .result - (c .before .before .before .before .before .before .before .before .before .before .before .before .before .before .before .before .before .before .before .before .before .loop .at + 8)) (drop (c .before .before .before .before .before .before .before .before .before .before .before .before .before .before .before .before .before .before .before .before .before .loop .at + 8) (now (o .args .batch)))) (c .before .before .before .before .before .before .before .before .before .before .add-fitting .result) (mem (c .before .before .before .before .before .before .before .before .before .before .add-fitting .last .1 .0) (c .before .before .before .before .before .before .before .before .before .before .add-fitting .last .1 .1 .0) (c .before .before .before .before .before .before .before .before .before .before .add-fitting .last .1 .1 .1 .0)) (c .word-at3 .ensures .0) (ap (λ (n : ℕ). take n (drop (c .before .before .before .before .before .before .before .before .before .before .before .before .before .before .before .before .before .before .before .before .before .loop .at + 8) (now (o .args .batch)))) (let e : c .before .before .before .before .before .before .before .before .before .before .before .before .before .before .before .before .before .before .before .before .before .loop .at + 8 + c .before .before .before .before .before .before .before .before .before .before .before .before .before .before .before .before .word-at2 .result - (c .before .before .before .before .before .before .before .before .before .before .before .before .before .before .before .before .before .before .before .before .before .loop .at + 8) ≡ lengthAt (now (o .args .batch)) (c .before .before .before .before .before .before .before .before .before .before .before .before .before .before .before .before .before .before .before .before .before .loop .at) = omega (arith, c .before .before .before .before .before .before .before .before .before .before .before .before .before .before .before .before .word-at2 .ensures .0) in e)) (not-yet (c .before .before .before .before .before .before .before .before .before .before .before .before .before .before .before .before .before .before .before .before .before .loop .k) (length (c .before .before .before .before .before .before .before .before .before .before .before .before .before .before .before .before .before .before .before .before .before .loop .answers)) (length (now (o .args .answers))) (c .before .before .before .before .before .before .before .before .before .before .before .before .before .before .before .before .before .before .before .before .before .loop .inv .5) (c .before .before .before .before .before .before .before .before .before .before .before .before .before .before .before .before .before .before .before .before .before .loop .inv .0 .few) (c .before .before .before .before .before .before .before .before .before .before .before .before .before .before .before .before .before .if2 .left)) (subst (λ (n : ℕ). AddPost (c .before .before .before .before .before .before .before .before .before .before .before .before .before .before .before .before .before .before .before .before .before .loop .head) (mem (c .before .before .before .before .before .before .before .before .before .before .before .before .before .before .before .before .before .before .before .before .before .loop .registers) (c .before .before .before .before .before .before .before .before .before .before .before .before .before .before .before .before .before .before .before .before .before .loop .sparse) (c .before .before .before .before .before .before .before .before .before .before .before .before .before .before .before .before .before .before .before .before .before .loop .pending)) n (take (c .before .before .before .before .before .before .before .before .before .before .before .before .before .before .before .before .before .before .before .before .before .loop .at + 8 + c .before .before .before .before .before .before .before .before .before .before .before .before .before .before .before .before .word-at2 .result - (c .before .before .before .before .before .before .before .before .before .before .before .before .before .before .before .before .before .before .before .before .before .loop .at + 8)) (drop (c .before .before .before .before .before .before .before .before .before .before .before .before .before .before .before .before .before .before .before .before .before .loop .at + 8) (now (o .args .batch)))) (c .before .before .before .before .before .before .before .before .before .before .add-fitting .result) (mem (c .before .before .before .before .before .before .before .before .before .before .add-fitting .last .1 .0) (c .before .before .before .before .before .before .before .before .before .before .add-fitting .last .1 .1 .0) (c .before .before .before .before .before .before .before .before .before .before .add-fitting .last .1 .1 .1 .0))) (c .before .before .before .before .before .before .before .before .before .before .before .before .before .before .before .before .before .before .before .before .before .loop .inv .4) (c .before .before .before .before .before .before .before .before .before .before .add-fitting .ensures)), c .before .before .before .before .before .before .before .before .before .before .add-fitting .kept .1 .0 ∙ c .before .before .before .before .before .before .before .before .before .before .before .before .before .before .before .before .before .before .before .before .before .loop .inv .1, c .before .before .before .before .before .before .before .before .before .before .add-fitting .kept .1 .1 .0 ∙ c .before .before .before .before .before .before .before .before .before .before .before .before .before .before .before .before .before .before .before .before .before .loop .inv .2, c .before .before .before .before .before .before .before .before .before .before .add-fitting .kept .1 .1 .1 .0 ∙ c .before .before .before .before .before .before .before .before .before .before .before .before .before .before .before .before .before .before .before .before .before .loop .inv .3, c .before .before .before .before .before .before .before .before .before .before .add-fitting .kept .1 .1 .1 .1 .0 ∙ c .before .before .before .before .before .before .before .before .before .before .before .before .before .before .before .before .before .before .before .before .before .loop .inv .4, length-set (c .before .before .before .before .before .before .before .before .before .before .before .before .before .before .before .before .before .before .before .before .before .loop .answers) (c .before .before .before .before .before .before .before .before .before .before .before .before .before .before .before .before .before .before .before .before .before .loop .k) (c .before .before .before .before .before .before .before .before .before .before .add-fitting .result .answer) ∙ c .before .before .before .before .before .before .before .before .before .before .before .before .before .before .before .before .before .before .before .before .before .loop .inv .5)
+loop-again c = let o = c .before .before .before .before .before .before .before .before .before .before .before .before .before .before .before .before .before .before .before .before .before .before .before .before .before .before .before .before .before .before in (going-turn (now (o .args .batch)) (m o) (length (now (o .args .scratch))) (c .before .before .before .before .before .before .before .before .before .before .before .before .before .before .before .before .before .before .before .before .before .loop .before) (c .before .before .before .before .before .before .before .before .before .before .before .before .before .before .before .before .before .before .before .before .before .loop .at) (c .before .before .before .before .before .before .before .before .before .before .before .before .before .before .before .before .before .before .before .before .before .loop .k) (c .before .before .before .before .before .before .before .before .before .before .before .before .before .before .before .before .before .before .before .before .before .loop .head) (mem (c .before .before .before .before .before .before .before .before .before .before .before .before .before .before .before .before .before .before .before .before .before .loop .registers) (c .before .before .before .before .before .before .before .before .before .before .before .before .before .before .before .before .before .before .before .before .before .loop .sparse) (c .before .before .before .before .before .before .before .before .before .before .before .before .before .before .before .before .before .before .before .before .before .loop .pending)) (now (o .args .answers)) (c .before .before .before .before .before .before .before .before .before .before .before .before .before .before .before .before .before .before .before .before .before .loop .answers) (c .before .before .before .before .before .before .before .before .before .before .before .before .before .before .before .before .before .before .before .before .before .loop .inv .0) (c .before .before .before .before .before .before .before .before .before .before .before .before .before .before .before .before .before .before .before .before .loop-test .taken) (said-yes (c .before .before .before .before .before .before .before .before .before .before .before .before .before .before .before .before .before .before .before .is-record .ensures) (c .before .before .before .before .before .before .before .before .before .before .before .before .before .before .before .before .before .before .if1 .left)) (c .word-at3 .result) (take (c .before .before .before .before .before .before .before .before .before .before .before .before .before .before .before .before .before .before .before .before .before .loop .at + 8 + c .before .before .before .before .before .before .before .before .before .before .before .before .before .before .before .before .word-at2 .result - (c .before .before .before .before .before .before .before .before .before .before .before .before .before .before .before .before .before .before .before .before .before .loop .at + 8)) (drop (c .before .before .before .before .before .before .before .before .before .before .before .before .before .before .before .before .before .before .before .before .before .loop .at + 8) (now (o .args .batch)))) (record { answer = c .before .before .before .before .before .before .before .before .before .before .add-fitting .result .answer; head = c .before .before .before .before .before .before .before .before .before .before .add-fitting .result .head }) (mem (c .before .before .before .before .before .before .before .before .before .before .add-fitting .last .1 .1 .0) (c .before .before .before .before .before .before .before .before .before .before .add-fitting .last .1 .1 .1 .0) (c .before .before .before .before .before .before .before .before .before .before .add-fitting .last .1 .1 .1 .1 .0)) (c .word-at3 .ensures .0) (ap (λ (n : ℕ). take n (drop (c .before .before .before .before .before .before .before .before .before .before .before .before .before .before .before .before .before .before .before .before .before .loop .at + 8) (now (o .args .batch)))) (let e : c .before .before .before .before .before .before .before .before .before .before .before .before .before .before .before .before .before .before .before .before .before .loop .at + 8 + c .before .before .before .before .before .before .before .before .before .before .before .before .before .before .before .before .word-at2 .result - (c .before .before .before .before .before .before .before .before .before .before .before .before .before .before .before .before .before .before .before .before .before .loop .at + 8) ≡ lengthAt (now (o .args .batch)) (c .before .before .before .before .before .before .before .before .before .before .before .before .before .before .before .before .before .before .before .before .before .loop .at) = omega (arith, c .before .before .before .before .before .before .before .before .before .before .before .before .before .before .before .before .word-at2 .ensures .0) in e)) (not-yet (c .before .before .before .before .before .before .before .before .before .before .before .before .before .before .before .before .before .before .before .before .before .loop .k) (length (c .before .before .before .before .before .before .before .before .before .before .before .before .before .before .before .before .before .before .before .before .before .loop .answers)) (length (now (o .args .answers))) (c .before .before .before .before .before .before .before .before .before .before .before .before .before .before .before .before .before .before .before .before .before .loop .inv .5) (c .before .before .before .before .before .before .before .before .before .before .before .before .before .before .before .before .before .before .before .before .before .loop .inv .0 .few) (c .before .before .before .before .before .before .before .before .before .before .before .before .before .before .before .before .before .if2 .left)) (subst (λ (n : ℕ). AddPost (c .before .before .before .before .before .before .before .before .before .before .before .before .before .before .before .before .before .before .before .before .before .loop .head) (mem (c .before .before .before .before .before .before .before .before .before .before .before .before .before .before .before .before .before .before .before .before .before .loop .registers) (c .before .before .before .before .before .before .before .before .before .before .before .before .before .before .before .before .before .before .before .before .before .loop .sparse) (c .before .before .before .before .before .before .before .before .before .before .before .before .before .before .before .before .before .before .before .before .before .loop .pending)) n (take (c .before .before .before .before .before .before .before .before .before .before .before .before .before .before .before .before .before .before .before .before .before .loop .at + 8 + c .before .before .before .before .before .before .before .before .before .before .before .before .before .before .before .before .word-at2 .result - (c .before .before .before .before .before .before .before .before .before .before .before .before .before .before .before .before .before .before .before .before .before .loop .at + 8)) (drop (c .before .before .before .before .before .before .before .before .before .before .before .before .before .before .before .before .before .before .before .before .before .loop .at + 8) (now (o .args .batch)))) (record { answer = c .before .before .before .before .before .before .before .before .before .before .add-fitting .result .answer; head = c .before .before .before .before .before .before .before .before .before .before .add-fitting .result .head }) (mem (c .before .before .before .before .before .before .before .before .before .before .add-fitting .last .1 .1 .0) (c .before .before .before .before .before .before .before .before .before .before .add-fitting .last .1 .1 .1 .0) (c .before .before .before .before .before .before .before .before .before .before .add-fitting .last .1 .1 .1 .1 .0))) (c .before .before .before .before .before .before .before .before .before .before .before .before .before .before .before .before .before .before .before .before .before .loop .inv .4) (c .before .before .before .before .before .before .before .before .before .before .add-fitting .ensures .added)), c .before .before .before .before .before .before .before .before .before .before .add-fitting .kept .1 .1 .0 ∙ c .before .before .before .before .before .before .before .before .before .before .before .before .before .before .before .before .before .before .before .before .before .loop .inv .1, c .before .before .before .before .before .before .before .before .before .before .add-fitting .kept .1 .1 .1 .0 ∙ c .before .before .before .before .before .before .before .before .before .before .before .before .before .before .before .before .before .before .before .before .before .loop .inv .2, c .before .before .before .before .before .before .before .before .before .before .add-fitting .kept .1 .1 .1 .1 .0 ∙ c .before .before .before .before .before .before .before .before .before .before .before .before .before .before .before .before .before .before .before .before .before .loop .inv .3, c .before .before .before .before .before .before .before .before .before .before .add-fitting .kept .1 .1 .1 .1 .1 .0 ∙ c .before .before .before .before .before .before .before .before .before .before .before .before .before .before .before .before .before .before .before .before .before .loop .inv .4, length-set (c .before .before .before .before .before .before .before .before .before .before .before .before .before .before .before .before .before .before .before .before .before .loop .answers) (c .before .before .before .before .before .before .before .before .before .before .before .before .before .before .before .before .before .before .before .before .before .loop .k) (c .before .before .before .before .before .before .before .before .before .before .add-fitting .result .answer) ∙ c .before .before .before .before .before .before .before .before .before .before .before .before .before .before .before .before .before .before .before .before .before .loop .inv .5, c .before .before .before .before .before .before .before .before .before .before .add-fitting .ensures .sound .known)
 
 same-length-11 : tie.Need-same-length-11 Inv-loop μ-loop
 same-length-11 c = search needs
