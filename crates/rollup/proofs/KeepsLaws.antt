@@ -11,7 +11,7 @@ use lib.Seq.{length-take-le}
 use lib.Pow.{pow-mono}
 use borrow.Author.Tests.{leb-true, ltb-true, eqb-true, eqb-false}
 use Rattle.wire.proofs.BoolLaws.{both-true, either, whichever}
-use Rattle.lists.specs.Values.{Pair, register}
+use Rattle.lists.specs.Values.{Pair, register, largestRank}
 use Rattle.lists.specs.Sorting.{ascends}
 use Rattle.lists.specs.Lists.{allValid, written}
 use Rattle.lists.specs.Registers.{registerBytes, registersOf, withRegisters, zeros, raisedBy, raisedLower, larger, lowered, largest}
@@ -22,7 +22,7 @@ use Rattle.rollup.specs.declared.accumulator.Form.{Form}
 use Rattle.rollup.specs.declared.accumulator.Form.the-variants.{Unstarted, Sparse, Dense}
 use Rattle.rollup.specs.declared.accumulator.Accumulator.{Accumulator}
 use Rattle.rollup.specs.declared.incoming.Incoming.{Incoming}
-use Rattle.rollup.specs.Accumulator.{Mem, mem, keptOf, waitingOf, limit, fits}
+use Rattle.rollup.specs.Accumulator.{Mem, mem, keptOf, waitingOf, limit, maxPending, fits}
 use Rattle.rollup.specs.Header.{isEmpty}
 use Rattle.rollup.specs.Adding.{refuse, wantedPrecision, Shows}
 use Rattle.rollup.specs.Accepting.{TakePre}
@@ -66,7 +66,7 @@ record GoodList (p s len bytes waiting : ℕ) (kept unsorted : List ℕ) : Type 
   kept-valid : allValid p s kept ≡ true
   waiting-valid : allValid p s unsorted ≡ true
   order : ascends kept ≡ true
-  few : waiting ≤ 2048
+  few : waiting ≤ maxPending
   bytes-low : written kept ≤ bytes
   bytes-high : bytes ≤ 2147483647
   wait : 0 < waiting → bytes + 5 * waiting < limit p
@@ -140,13 +140,13 @@ dense-fits x m same form fit r n sh =
       sparse = fit .sparse;
       none = fit .none;
       room = subst (λ (l : List ℕ). registerBytes p ≤ length l) e (fit .room);
-      small = subst (λ (l : List ℕ). largest (registersOf p l) ≤ 88 - p) e (fit .small);
+      small = subst (λ (l : List ℕ). largest (registersOf p l) ≤ largestRank p) e (fit .small);
     }))
 
 -- A row of registers that was put in front of bytes.
 module _ (h : Accumulator) (none : NoLists h) (form : h .form ≡ Dense) (low : 4 ≤ h .precision) (high : h .precision ≤ 24) (pos : 0 < h .«sparse_precision»)
     (bytes : List ℕ) (room : registerBytes (h .precision) ≤ length bytes) (row : List ℕ) (long : length row ≡ 2 ^ h .precision)
-    (small : largest row ≤ 88 - h .precision) where
+    (small : largest row ≤ largestRank (h .precision)) where
   row-fits : (r : Accumulator) (n : Mem) → Shows (record { head = h; registers = withRegisters (h .precision) row bytes; kept = []; waiting = [] }) r n
       → fits r n ≡ true
   row-fits =
@@ -159,18 +159,18 @@ module _ (h : Accumulator) (none : NoLists h) (form : h .form ≡ Dense) (low : 
         sparse = pos;
         none = none;
         room = with-room p bytes room row long registers refl;
-        small = subst (λ (l : List ℕ). largest l ≤ 88 - p) (sym (of-with p bytes room row long)) small;
+        small = subst (λ (l : List ℕ). largest l ≤ largestRank p) (sym (of-with p bytes room row long)) small;
       })
 
 -- The values of a list as registers, and lowered registers.
 module _ (p s : ℕ) (l : List ℕ) (pair : Pair p s) (ok : allValid p s l ≡ true) where
-  raised-small : largest (raisedBy p s (zeros p) l) ≤ 88 - p
+  raised-small : largest (raisedBy p s (zeros p) l) ≤ largestRank p
   raised-small =
-      largest-raised p s (zeros p) l (88 - p)
+      largest-raised p s (zeros p) l (largestRank p)
       (λ (v : ℕ) (i : List·Memᴰ v l). subst (λ (k : ℕ). register p s v < k) (sym (length-replicate (2 ^ p) 0)) (valid-inside p s l pair ok v i))
-      (let h : largest (zeros p) ≤ 88 - p = omega (arith, largest-zeros (2 ^ p)) in h) (valid-ranks p s l pair ok)
+      (let h : largest (zeros p) ≤ largestRank p = omega (arith, largest-zeros (2 ^ p)) in h) (valid-ranks p s l pair ok)
 
-lowered-small : (p q : ℕ) (l : List ℕ) → q ≤ p → p ≤ 24 → largest l ≤ 88 - p → largest (lowered (p - q) q l) ≤ 88 - q
+lowered-small : (p q : ℕ) (l : List ℕ) → q ≤ p → p ≤ 24 → largest l ≤ largestRank p → largest (lowered (p - q) q l) ≤ largestRank q
 lowered-small p q l h k small = omega (arith, largest-lowered (p - q) q l)
 
 -- ---- what is known where a path begins
@@ -223,7 +223,7 @@ module _ (a : Accumulator) (m : Mem) (room : ℕ) (x : Incoming) (row vs : List 
     both-valid = valid-append p s (keptOf a m) (waitingOf a m) (fit .kept-valid) (fit .waiting-valid)
 
     -- It becomes a dense one.
-    densed-keeps : (l : List ℕ) → length l ≡ 2 ^ p → largest l ≤ 88 - p → (r : Accumulator) (n : Mem)
+    densed-keeps : (l : List ℕ) → length l ≡ 2 ^ p → largest l ≤ largestRank p → (r : Accumulator) (n : Mem)
         → Shows (record { head = densed h; registers = withRegisters p l (m .registers); kept = []; waiting = [] }) r n → fits r n ≡ true
     densed-keeps =
         row-fits (densed h) (record { no-kept = refl; no-waiting = refl }) refl (fit .pair .low) (fit .pair .high)
@@ -280,9 +280,9 @@ module _ (a : Accumulator) (m : Mem) (room : ℕ) (x : Incoming) (row vs : List 
         let long = zeros-raised p s both in
         let same = pre .size (some-data row e) ∙ ap (λ (k : ℕ). 2 ^ k) (pre .same-normal sparse) in
         densed-keeps (larger own row) (larger-length own row ∙ long)
-        (subst (λ (k : ℕ). k ≤ 88 - p) (sym (largest-larger own row (long ∙ sym same)))
+        (subst (λ (k : ℕ). k ≤ largestRank p) (sym (largest-larger own row (long ∙ sym same)))
         (max-le (raised-small p s both (fit .pair) both-valid)
-        (subst (λ (k : ℕ). largest row ≤ 88 - k) (pre .same-normal sparse) (pre .small))))
+        (subst (λ (k : ℕ). largest row ≤ largestRank k) (pre .same-normal sparse) (pre .small))))
 
     sparse-keeps : (r : Accumulator) (n : Mem) → Shows (sparseAfter a m x row vs) r n → fits r n ≡ true
     sparse-keeps r n =
@@ -313,7 +313,7 @@ module _ (a : Accumulator) (m : Mem) (room : ℕ) (x : Incoming) (row vs : List 
     q-given : q ≤ x .precision
     q-given = min-le-right (a .precision) (x .precision)
 
-    own-small : largest own ≤ 88 - q
+    own-small : largest own ≤ largestRank q
     own-small = lowered-small (a .precision) q (registersOf (a .precision) (m .registers)) q-own (fit-d .high) (fit-d .small)
 
     own-long : length own ≡ 2 ^ q
@@ -325,27 +325,27 @@ module _ (a : Accumulator) (m : Mem) (room : ℕ) (x : Incoming) (row vs : List 
         whichever (λ (l : List ℕ). length l ≡ 2 ^ q) (isEmpty row) (raisedLower (x .precision) (x .«sparse_precision») d own vs) (larger own given)
         (lower-length (x .precision) (x .«sparse_precision») d own vs ∙ own-long) (larger-length own given ∙ own-long)
 
-    by-list : isEmpty row ≡ true → largest (raisedLower (x .precision) (x .«sparse_precision») (x .precision - q) own vs) ≤ 88 - q
+    by-list : isEmpty row ≡ true → largest (raisedLower (x .precision) (x .«sparse_precision») (x .precision - q) own vs) ≤ largestRank q
     by-list e =
         let p = x .precision in
         let s = x .«sparse_precision» in
         let pair = pre .pair (no-data row e) in
         let split : p ≡ q + (p - q) = omega (arith, q-given) in
-        let same : (88 - p) + (p - q) ≡ 88 - q = omega (arith, q-given, pre .high) in
+        let same : largestRank p + (p - q) ≡ largestRank q = omega (arith, q-given, pre .high) in
         subst (λ (k : ℕ). largest (raisedLower p s (p - q) own vs) ≤ k) same
-        (largest-raised-lower p s (p - q) own vs (88 - p)
+        (largest-raised-lower p s (p - q) own vs (largestRank p)
         (λ (v : ℕ) (i : List·Memᴰ v vs).
         subst (λ (k : ℕ). register p s v / 2 ^ (p - q) < k) (sym own-long) (valid-inside-lower p s (p - q) q vs split pair (pre .all) v i))
         (subst (λ (k : ℕ). largest own ≤ k) (sym same) own-small) (valid-ranks p s vs pair (pre .all)))
 
-    by-row : largest (larger own given) ≤ 88 - q
+    by-row : largest (larger own given) ≤ largestRank q
     by-row =
-        subst (λ (k : ℕ). k ≤ 88 - q) (sym (largest-larger own given (own-long ∙ sym (lowered-length (x .precision - q) q row))))
+        subst (λ (k : ℕ). k ≤ largestRank q) (sym (largest-larger own given (own-long ∙ sym (lowered-length (x .precision - q) q row))))
         (max-le own-small (lowered-small (x .precision) q row q-given (pre .high) (pre .small)))
 
-    raised-few : largest (raisedTo q x row vs own) ≤ 88 - q
+    raised-few : largest (raisedTo q x row vs own) ≤ largestRank q
     raised-few =
-        either (λ (l : List ℕ). largest l ≤ 88 - q) (isEmpty row) (raisedLower (x .precision) (x .«sparse_precision») (x .precision - q) own vs)
+        either (λ (l : List ℕ). largest l ≤ largestRank q) (isEmpty row) (raisedLower (x .precision) (x .«sparse_precision») (x .precision - q) own vs)
         (larger own given) by-list (λ (e : isEmpty row ≡ false). by-row)
 
     -- The row with the freed registers, as long as it was.
@@ -371,7 +371,7 @@ module _ (a : Accumulator) (m : Mem) (room : ℕ) (x : Incoming) (row vs : List 
               (a .«sparse_precision») (pre .sparse) (fit-d .sparse);
           none = record { no-kept = refl; no-waiting = refl };
           room = omega (arith, with-length p (m .registers) (fit-d .room) (raised ++ freed) whole-long, fewer-bytes q p q-own, fit-d .room);
-          small = subst (λ (l : List ℕ). largest l ≤ 88 - q) (sym (of-front q p raised freed (m .registers) raised-long)) raised-few;
+          small = subst (λ (l : List ℕ). largest l ≤ largestRank q) (sym (of-front q p raised freed (m .registers) raised-long)) raised-few;
         })
 
   -- ---- whatever the form

@@ -25,7 +25,6 @@ use Rattle.rollup.specs.Adding.{stateNumbers}
 use Rattle.rollup.specs.Accepting.{TakePre}
 use Rattle.rollup.specs.Calls.{Call, Steps, begun, adding, writing, moving, Run, valueOr, stateIn, valuesIn}
 use Rattle.rollup.proofs.FitLaws.{FitSparse, fit-sparse, counts-short}
-
 use Rattle.rollup.proofs.TakeLaws.{ready-takes}
 use Rattle.rollup.proofs.WaysLaws.{start-ways, settle-ways, list-ways, sparse-ways}
 use Rattle.rollup.proofs.ViewLaws.{IsRefused, IsAccepted, add-view, fresh-fits, steps-fit}
