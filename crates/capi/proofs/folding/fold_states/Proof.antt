@@ -8,7 +8,7 @@ use Rattle.wire.proofs.BoolLaws.{never}
 use Rattle.rollup.specs.declared.adding.Added.{Added}
 use Rattle.rollup.specs.Accumulator.{Mem, mem}
 use Rattle.rollup.specs.Adding.{AddPost}
-use Rattle.rollup.specs.SparsePaths.{KnownDistinct}
+use Rattle.rollup.specs.Paths.{KnownDistinct}
 use Rattle.capi.specs.Folds.{between}
 use Rattle.capi.proofs.FoldLaws.{Folding, fold-start, state-from, state-to, fold-turn, fold-end}
 use borrow.Author.Needs.{needs}
@@ -57,17 +57,17 @@ mul-end c = search needs
 shared-slice-read-end : tie.Need-shared-slice-read-end Inv-loop μ-loop
 shared-slice-read-end c = search needs
 
-sub-add-knowing : tie.Need-sub-add-knowing Inv-loop μ-loop
-sub-add-knowing c = omega (arith, from (c .before .before .before .before .before), to (c .before .before .before .before .before))
+sub-add-fitting : tie.Need-sub-add-fitting Inv-loop μ-loop
+sub-add-fitting c = omega (arith, from (c .before .before .before .before .before), to (c .before .before .before .before .before))
 
-part-add-knowing-start : tie.Need-part-add-knowing-start Inv-loop μ-loop
-part-add-knowing-start c = omega (arith, from (c .before .before .before .before .before), to (c .before .before .before .before .before))
+part-add-fitting-start : tie.Need-part-add-fitting-start Inv-loop μ-loop
+part-add-fitting-start c = omega (arith, from (c .before .before .before .before .before), to (c .before .before .before .before .before))
 
-part-add-knowing-end : tie.Need-part-add-knowing-end Inv-loop μ-loop
-part-add-knowing-end c = omega (arith, from (c .before .before .before .before .before), to (c .before .before .before .before .before))
+part-add-fitting-end : tie.Need-part-add-fitting-end Inv-loop μ-loop
+part-add-fitting-end c = omega (arith, from (c .before .before .before .before .before), to (c .before .before .before .before .before))
 
-add-knowing-requires : tie.Need-add-knowing-requires Inv-loop μ-loop
-add-knowing-requires c κs = (c .before .before .before .before .before .before .before .loop .inv .0 .fit, c .before .before .before .before .before .before .before .loop .inv .6)
+add-fitting-requires : tie.Need-add-fitting-requires Inv-loop μ-loop
+add-fitting-requires c κs = record { fit = c .before .before .before .before .before .before .before .loop .inv .0 .fit; known = c .before .before .before .before .before .before .before .loop .inv .6 }
 
 slice-write-answers : tie.Need-slice-write-answers Inv-loop μ-loop
 slice-write-answers c = search needs
@@ -83,11 +83,11 @@ loop-again c =
     let o = c .before .before .before .before .before .before .before .before .before .before .before .before .before .before .before .before .before .before .before .before .before .before .before .before .before in
     let l = c .before .before .before .before .before .before .before .before .before .before .before .before .before .before .before .before .before .loop in
     let end = getD (now (o .args .ends)) (l .i) 0 in
-    let r : Added = record { answer = c .before .before .before .before .before .before .before .before .before .add-knowing .result .answer; head = c .before .before .before .before .before .before .before .before .before .add-knowing .result .head } in
+    let r : Added = record { answer = c .before .before .before .before .before .before .before .before .before .add-fitting .result .answer; head = c .before .before .before .before .before .before .before .before .before .add-fitting .result .head } in
     let before = mem (l .registers) (l .sparse) (l .pending) in
-    let after = mem (c .before .before .before .before .before .before .before .before .before .add-knowing .last .1 .0) (c .before .before .before .before .before .before .before .before .before .add-knowing .last .1 .1 .0) (c .before .before .before .before .before .before .before .before .before .add-knowing .last .1 .1 .1 .0) in
-    let post = subst (λ (k : ℕ). AddPost (l .head) before k (between (now (o .args .bytes)) (l .start) end) r after) (l .inv .4) (c .before .before .before .before .before .before .before .before .before .add-knowing .ensures .added) in
-    (fold-turn (o .args .a) (m o) (length (now (o .args .scratch))) (now (o .args .bytes)) (now (o .args .ends)) (now (o .args .answers)) (l .start) (l .i) (l .head) before (l .answers) (l .inv .0) end (c .before .before .before .before .before .before .before .before .before .before .before .before .before .before .before .before .loop-test .taken) refl r after post, c .before .before .before .before .before .before .before .before .before .add-knowing .kept .1 .0 ∙ l .inv .1, c .before .before .before .before .before .before .before .before .before .add-knowing .kept .1 .1 .0 ∙ l .inv .2, c .before .before .before .before .before .before .before .before .before .add-knowing .kept .1 .1 .1 .0 ∙ l .inv .3, c .before .before .before .before .before .before .before .before .before .add-knowing .kept .1 .1 .1 .1 .0 ∙ l .inv .4, length-set (l .answers) (l .i) (r .answer) ∙ l .inv .5, c .before .before .before .before .before .before .before .before .before .add-knowing .ensures .known)
+    let after = mem (c .before .before .before .before .before .before .before .before .before .add-fitting .last .1 .1 .0) (c .before .before .before .before .before .before .before .before .before .add-fitting .last .1 .1 .1 .0) (c .before .before .before .before .before .before .before .before .before .add-fitting .last .1 .1 .1 .1 .0) in
+    let post = subst (λ (k : ℕ). AddPost (l .head) before k (between (now (o .args .bytes)) (l .start) end) r after) (l .inv .4) (c .before .before .before .before .before .before .before .before .before .add-fitting .ensures .added) in
+    (fold-turn (o .args .a) (m o) (length (now (o .args .scratch))) (now (o .args .bytes)) (now (o .args .ends)) (now (o .args .answers)) (l .start) (l .i) (l .head) before (l .answers) (l .inv .0) end (c .before .before .before .before .before .before .before .before .before .before .before .before .before .before .before .before .loop-test .taken) refl r after post, c .before .before .before .before .before .before .before .before .before .add-fitting .kept .1 .1 .0 ∙ l .inv .1, c .before .before .before .before .before .before .before .before .before .add-fitting .kept .1 .1 .1 .0 ∙ l .inv .2, c .before .before .before .before .before .before .before .before .before .add-fitting .kept .1 .1 .1 .1 .0 ∙ l .inv .3, c .before .before .before .before .before .before .before .before .before .add-fitting .kept .1 .1 .1 .1 .1 .0 ∙ l .inv .4, length-set (l .answers) (l .i) (r .answer) ∙ l .inv .5, c .before .before .before .before .before .before .before .before .before .add-fitting .ensures .sound .known)
 
 same-length : tie.Need-same-length Inv-loop μ-loop
 same-length c = search needs
@@ -119,10 +119,10 @@ fold-states-spec =
     loop-holds
     mul-end
     shared-slice-read-end
-    sub-add-knowing
-    part-add-knowing-start
-    part-add-knowing-end
-    add-knowing-requires
+    sub-add-fitting
+    part-add-fitting-start
+    part-add-fitting-end
+    add-fitting-requires
     slice-write-answers
     add-i
     loop-less
