@@ -100,16 +100,7 @@ pub(crate) fn fold(
     if !fitting::fits(a, &registers[..], &sparse[..], &pending[..]) {
         return Added { answer: 1, head: a };
     }
-    let head = fold_states(
-        a,
-        registers,
-        sparse,
-        pending,
-        scratch,
-        bytes,
-        ends,
-        answers,
-    );
+    let head = fold_states(a, registers, sparse, pending, scratch, bytes, ends, answers);
     Added { answer: 0, head }
 }
 
