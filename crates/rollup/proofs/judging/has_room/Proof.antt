@@ -32,7 +32,8 @@ past-registers : (c : tie.After-wanted-cells) → let o = c .before .before .bef
     ≡ (leb (c .wanted-cells .result) (length (m o .sparse)) && leb (c .wanted-cells .result) (length (m o .pending)) && leb (c .wanted-cells .result) (room o))
 past-registers c =
     let o = c .before .before .before .before .before .before .before .before .before in
-    registers-yes (o .args .a) (m o) (room o) (st o) (c .before .before .before .wanted-registers .result) (c .before .before .before .wanted-registers .ensures (now (o .args .bytes))) (c .before .before .if1 .left)
+    registers-yes (o .args .a) (m o) (room o) (st o) (c .before .before .before .wanted-registers .result)
+    (c .before .before .before .wanted-registers .ensures (now (o .args .bytes))) (c .before .before .if1 .left)
     (c .wanted-cells .result) (c .wanted-cells .ensures ∙ ap (wantedCells (o .args .a)) (ap length (c .before .sparse-data .ensures)))
 
 wanted-registers-requires : tie.Need-wanted-registers-requires
@@ -41,7 +42,8 @@ wanted-registers-requires c κs = let o = c .before .before .before .before .bef
 returns : tie.Need-returns
 returns c =
     let o = c .before .before .before .before .before .before .before in
-    registers-no (o .args .a) (m o) (room o) (st o) (c .before .wanted-registers .result) (c .before .wanted-registers .ensures (now (o .args .bytes))) (c .if1 .taken)
+    registers-no (o .args .a) (m o) (room o) (st o) (c .before .wanted-registers .result)
+    (c .before .wanted-registers .ensures (now (o .args .bytes))) (c .if1 .taken)
 
 sparse-data-requires : tie.Need-sparse-data-requires
 sparse-data-requires c κs = search needs
@@ -49,7 +51,8 @@ sparse-data-requires c κs = search needs
 wanted-cells-requires : tie.Need-wanted-cells-requires
 wanted-cells-requires c κs =
     let o = c .before .before .before .before .before .before .before .before in
-    subst (λ (n : ℕ). o .args .a .«sparse_len» + o .args .a .«pending_len» + n < 2 ^ 64) (sym (ap length (c .sparse-data .ensures))) (wanted-small (o .args .a) (m o) (st o) (o .pre))
+    subst (λ (n : ℕ). o .args .a .«sparse_len» + o .args .a .«pending_len» + n < 2 ^ 64) (sym (ap length (c .sparse-data .ensures)))
+    (wanted-small (o .args .a) (m o) (st o) (o .pre))
 
 returns-2 : tie.Need-returns-2
 returns-2 c = sym (past-registers (c .before) ∙ both-no _ (both-no _ (lt-leb _ _ (c .if2 .taken))))
