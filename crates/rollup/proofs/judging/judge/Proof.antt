@@ -17,7 +17,8 @@ enum-told c = search needs
 returns : tie.Need-returns
 returns c =
     let o = c .before .before .before .before .args in
-    judge-refused (o .a) (now (o .bytes)) (c .before .before .read-header .result) (c .before .before .read-header .ensures) (c .enum-told .given .0 .0) (c .enum-told .given .1)
+    judge-refused (o .a) (now (o .bytes)) (c .before .before .read-header .result) (c .before .before .read-header .ensures)
+    (c .enum-told .given .0 .0) (c .enum-told .given .1)
 
 validate-match-requires : tie.Need-validate-match-requires
 validate-match-requires c κs = search needs
@@ -25,14 +26,14 @@ validate-match-requires c κs = search needs
 returns-2 : tie.Need-returns-2
 returns-2 c =
     let o = c .before .before .before .before .before .before .before .args in
-    judge-no (o .a) (now (o .bytes)) (c .before .before .before .before .before .read-header .result) (c .before .before .before .before .before .read-header .ensures) (c .before .before .before .r .given .0 .0) (c .before .before .before .r .given .1)
-    (c .before .validate-match .result) (c .before .validate-match .ensures) (c .if1 .taken)
+    judge-no (o .a) (now (o .bytes)) (c .before .before .before .before .before .read-header .result) (c .before .before .before .before .before .read-header .ensures)
+    (c .before .before .before .r .given .0 .0) (c .before .before .before .r .given .1) (c .before .validate-match .result) (c .before .validate-match .ensures) (c .if1 .taken)
 
 returns-3 : tie.Need-returns-3
 returns-3 c =
     let o = c .before .before .before .before .before .before .before .args in
-    judge-yes (o .a) (now (o .bytes)) (c .before .before .before .before .before .read-header .result) (c .before .before .before .before .before .read-header .ensures) (c .before .before .before .r .given .0 .0) (c .before .before .before .r .given .1)
-    (c .before .validate-match .result) (c .before .validate-match .ensures) (c .if1 .left)
+    judge-yes (o .a) (now (o .bytes)) (c .before .before .before .before .before .read-header .result) (c .before .before .before .before .before .read-header .ensures)
+    (c .before .before .before .r .given .0 .0) (c .before .before .before .r .given .1) (c .before .validate-match .result) (c .before .validate-match .ensures) (c .if1 .left)
 
 pub judge-spec : {M : Type 1} → statement M
 judge-spec =

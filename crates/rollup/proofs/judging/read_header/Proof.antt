@@ -22,7 +22,8 @@ parsed-refusal-requires c κs = search needs
 
 returns-2 : tie.Need-returns-2
 returns-2 c =
-    read-refused (now (c .before .before .before .before .before .before .args .bytes)) (c .before .before .before .before .if1 .left) (c .parsed-refusal .result) (c .before .enum-told .given .0 .0)
+    let o = c .before .before .before .before .before .before .args in
+    read-refused (now (o .bytes)) (c .before .before .before .before .if1 .left) (c .parsed-refusal .result) (c .before .enum-told .given .0 .0)
     (c .before .before .before .parse .result) (c .before .enum-told .given .1) (c .before .before .before .parse .ensures) (c .parsed-refusal .ensures)
 
 validate-header-requires : tie.Need-validate-header-requires
@@ -30,13 +31,17 @@ validate-header-requires c κs = search needs
 
 returns-3 : tie.Need-returns-3
 returns-3 c =
-    read-no (now (c .before .before .before .before .before .before .before .before .args .bytes)) (c .before .before .before .before .before .before .if1 .left) (c .before .before .before .r .given .0 .0) (rw (c .before .before .before .r .given .1) at (c .before .before .before .before .before .parse .ensures))
-    (c .before .validate-header .result) (c .before .validate-header .ensures) (c .if2 .taken)
+    let o = c .before .before .before .before .before .before .before .before .args in
+    read-no (now (o .bytes)) (c .before .before .before .before .before .before .if1 .left) (c .before .before .before .r .given .0 .0)
+    (rw (c .before .before .before .r .given .1) at (c .before .before .before .before .before .parse .ensures)) (c .before .validate-header .result)
+    (c .before .validate-header .ensures) (c .if2 .taken)
 
 returns-4 : tie.Need-returns-4
 returns-4 c =
-    read-yes (now (c .before .before .before .before .before .before .before .before .args .bytes)) (c .before .before .before .before .before .before .if1 .left) (c .before .before .before .r .given .0 .0) (rw (c .before .before .before .r .given .1) at (c .before .before .before .before .before .parse .ensures))
-    (c .before .validate-header .result) (c .before .validate-header .ensures) (c .if2 .left)
+    let o = c .before .before .before .before .before .before .before .before .args in
+    read-yes (now (o .bytes)) (c .before .before .before .before .before .before .if1 .left) (c .before .before .before .r .given .0 .0)
+    (rw (c .before .before .before .r .given .1) at (c .before .before .before .before .before .parse .ensures)) (c .before .validate-header .result)
+    (c .before .validate-header .ensures) (c .if2 .left)
 
 pub read-header-spec : {M : Type 1} → statement M
 read-header-spec =
