@@ -17,7 +17,7 @@ use Rattle.lists.proofs.DecodingLaws.{accepted, decode-encode}
 use Rattle.lists.proofs.MergeLaws.{length-encode}
 use Rattle.lists.proofs.RegisterLaws.{count-is}
 use Rattle.lists.specs.declared.values.Sparse.{Sparse as Encoding}
-use Rattle.lists.specs.Values.{Pair, NewPost}
+use Rattle.lists.specs.Values.{Pair, NewPost, largestRank}
 use Rattle.lists.specs.Sorting.{ascends}
 use Rattle.lists.specs.Lists.{allValid, encodeList, written}
 use Rattle.lists.specs.Registers.{registerBytes, registersOf, largest}
@@ -72,7 +72,7 @@ pub record FitDense (a : Accumulator) (m : Mem) : Type 0 where
   pub sparse : 0 < a .«sparse_precision»
   pub none : NoLists a
   pub room : registerBytes (a .precision) ≤ length (m .registers)
-  pub small : largest (registersOf (a .precision) (m .registers)) ≤ 88 - a .precision
+  pub small : largest (registersOf (a .precision) (m .registers)) ≤ largestRank (a .precision)
 
 -- ---- ranges, and the limit
 
@@ -200,12 +200,12 @@ module _ (a : Accumulator) (kept waiting : List ℕ) where
 -- The code's test for enough register bytes.
 module _ (bytes : List ℕ) (want p : ℕ) (e : want ≡ registerBytes p) where
   pub few-bytes : length bytes < want → false ≡ registersFit p bytes
-  few-bytes h = sym (both-no (leb (largest (registersOf p bytes)) (88 - p)) (lt-leb (registerBytes p) (length bytes) (omega arith)))
+  few-bytes h = sym (both-no (leb (largest (registersOf p bytes)) (largestRank p)) (lt-leb (registerBytes p) (length bytes) (omega arith)))
 
-  pub enough-bytes : (most : ℕ) → most ≡ largest (registersOf p bytes) → want ≤ length bytes → leb most (88 - p) ≡ registersFit p bytes
+  pub enough-bytes : (most : ℕ) → most ≡ largest (registersOf p bytes) → want ≤ length bytes → leb most (largestRank p) ≡ registersFit p bytes
   enough-bytes most f h =
-      ap (λ (n : ℕ). leb n (88 - p)) f
-      ∙ sym (both-yes (leb (largest (registersOf p bytes)) (88 - p)) (le-leb (registerBytes p) (length bytes) (omega arith)))
+      ap (λ (n : ℕ). leb n (largestRank p)) f
+      ∙ sym (both-yes (leb (largest (registersOf p bytes)) (largestRank p)) (le-leb (registerBytes p) (length bytes) (omega arith)))
 
 -- ---- all of it, taken apart and put together
 
@@ -255,7 +255,7 @@ module _ (a : Accumulator) (m : Mem) where
       let c₁ = normalRange (a .precision) in
       let c₂ = not (eqb (a .«sparse_precision») 0) in
       let c₃ = leb (registerBytes (a .precision)) (length (m .registers)) in
-      let c₄ = leb (largest (registersOf (a .precision) (m .registers))) (88 - a .precision) in
+      let c₄ = leb (largest (registersOf (a .precision) (m .registers))) (largestRank (a .precision)) in
       let g : denseFits a m ≡ true = sym (fits-form a m Dense f) ∙ e in
       let e₃ = both-true (c₁ && c₂ && noLists a) (c₃ && c₄) g in
       let e₂ = both-true (c₁ && c₂) (noLists a) (e₃ .0) in

@@ -7,7 +7,7 @@ use lib.ListN.{length, take}
 use Rattle.wire.specs.State.{State}
 use Rattle.lists.specs.declared.decoding.Decoded.{Decoded}
 use Rattle.lists.specs.declared.decoding.Decoded.the-variants.{Done, Refused}
-use Rattle.lists.specs.Values.{Pair}
+use Rattle.lists.specs.Values.{Pair, largestRank}
 use Rattle.lists.specs.Sorting.{ascends}
 use Rattle.lists.specs.Lists.{allValid, written}
 use Rattle.lists.specs.Registers.{registerBytes, largest}
@@ -34,7 +34,7 @@ pub record TakePre (a : Accumulator) (m : Mem) (room : ℕ) (x : Incoming) (row 
   pub high : x .precision ≤ 24
   pub sparse : 0 < x .«sparse_precision»
   pub size : 0 < length row → length row ≡ 2 ^ x .precision
-  pub small : largest row ≤ 88 - x .precision
+  pub small : largest row ≤ largestRank (x .precision)
   pub pair : length row ≡ 0 → Pair (x .precision) (x .«sparse_precision»)
   pub order : ascends vs ≡ true
   pub all : allValid (x .precision) (x .«sparse_precision») vs ≡ true

@@ -4,6 +4,7 @@ use mathlib.Core.Bool.{Bool, _&&_, _||_, not}
 use Prim.Native.Nat.{ℕ, _+_, _-_, _*_, _^_, _<_}
 use lib.Dec.{ltb, leb, eqb}
 use lib.ListN.{length, take}
+use Rattle.lists.specs.Values.{largestRank}
 use Rattle.lists.specs.Sorting.{ascends}
 use Rattle.lists.specs.Lists.{allValid, written}
 use Rattle.lists.specs.Registers.{registerBytes, registersOf, largest}
@@ -78,7 +79,7 @@ listsFit a kept waiting =
 
 -- "The two counts fit their own lists and, if dense, 2^p the registers"; "no register above 88−p".
 abbrev pub registersFit : ℕ → List ℕ → Bool
-registersFit p registers = leb (registerBytes p) (length registers) && leb (largest (registersOf p registers)) (88 - p)
+registersFit p registers = leb (registerBytes p) (length registers) && leb (largest (registersOf p registers)) (largestRank p)
 
 -- Of the memory a list roll-up asks for the two lists alone, and a dense one for the registers.
 abbrev pub sparseFits : Accumulator → Mem → Bool
