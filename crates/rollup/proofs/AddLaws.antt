@@ -24,8 +24,7 @@ use Rattle.rollup.specs.Header.{dataOf, listOf}
 use Rattle.rollup.specs.Taking.{After, pathOf, takenAfter}
 use Rattle.rollup.specs.Adding.{Outcome, refuse, accept, numbersOf, stateNumbers, acceptedAfter, judge, hasRoom, listedIn, question, opened, addOutcome, judgeAnswer, Shows, Free, AddPost}
 use Rattle.rollup.specs.Judging.{judgedRefusal, JudgePost, RoomPre, ListedPre}
-use Rattle.rollup.specs.Paths.{KnownDistinct, PathPre}
-use Rattle.rollup.specs.Accepting.{TakePre, TakingPre, distinctAfter, AcceptPre, decodedRefusal, AcceptPost, FittingPost}
+use Rattle.rollup.specs.Stages.{KnownDistinct, PathPre, TakePre, TakingPre, distinctAfter, AcceptPre, decodedRefusal, AcceptPost, FittingPost}
 use Rattle.rollup.proofs.FitLaws.{fit-sparse}
 use Rattle.rollup.proofs.JudgeLaws.{judged-state, judged-short, judged-no, listed-pre}
 use Rattle.rollup.proofs.TakeLaws.{fit-kept, Ready, ready-takes}
@@ -131,19 +130,17 @@ module _ {a : Accumulator} {distinct : Bool} {m : Mem} {scratch : List ℕ} {st 
 
     pub accept-path : PathPre a x (keptOf a m) k distinct
     accept-path f =
-        let s = fit-sparse a m (pre .taken .fit) f in
-        record {
-          wait =
-              record {
-                low = s .pair .low;
-                high = s .pair .high;
-                bytes = s .bytes-high;
-                few = s .few;
-                growth = subst (λ (y : Incoming). y .growth ≤ 5 * 2147483647) (sym the-state) (pre .taken .growth-high);
-                incoming = accept-few;
-              };
-          insert = record { pair = s .pair; order = s .order; all = s .kept-valid; known = pre .known };
-        }
+        let s = fit-sparse a m (pre .taken .fit) f in (
+          record {
+            low = s .pair .low;
+            high = s .pair .high;
+            bytes = s .bytes-high;
+            few = s .few;
+            growth = subst (λ (y : Incoming). y .growth ≤ 5 * 2147483647) (sym the-state) (pre .taken .growth-high);
+            incoming = accept-few;
+          },
+          record { pair = s .pair; order = s .order; all = s .kept-valid; known = pre .known },
+        )
 
     module _ (path : Path) (its : path ≡ pathOf (a .form) a (keptOf a m) x k) (row : List ℕ) (same : row ≡ dataOf st) where
       pub accept-taking : TakingPre a m scratch x path row k

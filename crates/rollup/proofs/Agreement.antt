@@ -19,7 +19,7 @@ use Rattle.rollup.specs.declared.adding.Added.{Added}
 use Rattle.rollup.specs.Accumulator.{Mem, fresh}
 use Rattle.rollup.specs.Header.{dataOf, maskOf}
 use Rattle.rollup.specs.Adding.{stateNumbers, isStarted, Shows}
-use Rattle.rollup.specs.Accepting.{TakePre}
+use Rattle.rollup.specs.Stages.{TakePre}
 use Rattle.rollup.specs.Calls.{Call, added, wrote, moved, Moved, Steps, begun, adding, writing, moving, Run, accepted, stateIn, valuesIn, states, registersIn, over, smallestPrecision, smallestSparsePrecision, commonBits, largestRegisters, rollupRegisters, Answered, NoZeroRank, Agrees, DemandThree, OrderFree}
 use Rattle.rollup.specs.Taking.{signedMin, unchanged}
 use Rattle.rollup.proofs.TakeLaws.{ready-takes}

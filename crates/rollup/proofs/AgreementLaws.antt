@@ -25,7 +25,7 @@ use Rattle.rollup.specs.declared.incoming.Incoming.{Incoming}
 use Rattle.rollup.specs.Accumulator.{Mem, keptOf, waitingOf, limit}
 use Rattle.rollup.specs.Header.{isEmpty}
 use Rattle.rollup.specs.Adding.{isStarted, Shows}
-use Rattle.rollup.specs.Accepting.{TakePre}
+use Rattle.rollup.specs.Stages.{TakePre}
 use Rattle.rollup.specs.Calls.{Moved, listRegisters, takenRegisters, rollupRegisters}
 use Rattle.rollup.specs.Taking.{After, unchanged, commonMask, counted, startList, startDense, startAfter, asList, asDense, settle, waits, inserts, listPath, allMerged, asWaiting, listAfter, rowTaken, sparseAfter, signedKey, signedMin, raisedTo, denseAfter, takenAfter}
 use Rattle.rollup.proofs.FitLaws.{FitSparse, fit-sparse}

@@ -20,7 +20,7 @@ use Rattle.rollup.specs.declared.incoming.Incoming.{Incoming}
 use Rattle.rollup.specs.Accumulator.{mem}
 use Rattle.rollup.specs.Taking.{After, denseHead, commonMask, sumCount, signedMin, raisedTo, denseAfter}
 use Rattle.rollup.specs.Adding.{Shows}
-use Rattle.rollup.specs.DensePaths.{LowerOwnPre, LowerOwnPost, RaiseByRowPre, RaiseByListPre, RaisePre, DensePre, DensePost}
+use Rattle.rollup.specs.Stages.{LowerOwnPre, LowerOwnPost, RaiseByRowPre, RaiseByListPre, RaisePre, DensePre, DensePost}
 
 -- ---- the smaller as signed numbers
 

@@ -19,8 +19,7 @@ use Rattle.rollup.specs.Accumulator.{Mem, keptOf, waitingOf, limit}
 use Rattle.rollup.specs.Header.{isEmpty}
 use Rattle.rollup.specs.Taking.{After, counted, settle, pathOf, allMerged, listAfter, denseAfter, takenAfter}
 use Rattle.rollup.specs.Adding.{Shows}
-use Rattle.rollup.specs.Paths.{KnownDistinct}
-use Rattle.rollup.specs.Accepting.{TakePre, distinctAfter}
+use Rattle.rollup.specs.Stages.{KnownDistinct, TakePre, distinctAfter}
 use Rattle.rollup.proofs.WaysLaws.{settle-ways, sparse-ways}
 
 -- No two values of no list are of one slot.

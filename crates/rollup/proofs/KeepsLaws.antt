@@ -25,7 +25,7 @@ use Rattle.rollup.specs.declared.incoming.Incoming.{Incoming}
 use Rattle.rollup.specs.Accumulator.{Mem, mem, keptOf, waitingOf, limit, maxPending, fits}
 use Rattle.rollup.specs.Header.{isEmpty}
 use Rattle.rollup.specs.Adding.{refuse, wantedPrecision, Shows}
-use Rattle.rollup.specs.Accepting.{TakePre}
+use Rattle.rollup.specs.Stages.{TakePre}
 use Rattle.rollup.specs.declared.writing.Written.{Written}
 use Rattle.rollup.specs.Writing.{WritePost}
 use Rattle.rollup.specs.Taking.{After, unchanged, counted, densed, startList, startDense, startAfter, asList, settle, waits, inserts, listPath, allMerged, asWaiting, listAfter, rowTaken, sparseAfter, signedKey, raisedTo, denseAfter, takenAfter}

@@ -16,7 +16,7 @@ use Rattle.rollup.specs.Accumulator.{mem}
 use Rattle.rollup.specs.Header.{isEmpty}
 use Rattle.rollup.specs.Taking.{listHead, denseHead, startList, startDense, startAfter}
 use Rattle.rollup.specs.Adding.{Shows}
-use Rattle.rollup.specs.Starting.{StartPre, StartPost}
+use Rattle.rollup.specs.Stages.{StartPre, StartPost}
 use Rattle.rollup.proofs.DenseLaws.{dense-shown}
 
 module _ (registers sparse : List ℕ) (x : Incoming) (row vs : List ℕ) (pre : StartPre registers sparse x row vs) where

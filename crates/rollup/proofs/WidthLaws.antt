@@ -22,7 +22,7 @@ use Rattle.rollup.specs.Accumulator.{Mem, keptOf, waitingOf, limit, fits
 use Rattle.rollup.specs.Header.{dataOf, isEmpty}
 use Rattle.rollup.specs.Taking.{After, counted, startAfter, settle, waits, inserts, allMerged, sparseAfter, signedKey, denseAfter, takenAfter}
 use Rattle.rollup.specs.Adding.{stateNumbers}
-use Rattle.rollup.specs.Accepting.{TakePre}
+use Rattle.rollup.specs.Stages.{TakePre}
 use Rattle.rollup.specs.Calls.{Call, Steps, begun, adding, writing, moving, Run, valueOr, stateIn, valuesIn}
 use Rattle.rollup.proofs.FitLaws.{FitSparse, fit-sparse, counts-short}
 use Rattle.rollup.proofs.TakeLaws.{ready-takes}

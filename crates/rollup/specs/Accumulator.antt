@@ -102,21 +102,25 @@ fits a m = fitsForm (a .form) a m
 
 -- ---- what a head tells
 
+-- A head of its ten numbers.
+abbrev pub headOf : Form → (mask valueType count p s size len bytes waits : ℕ) → Accumulator
+headOf form mask valueType count p s size len bytes waits =
+    record {
+      form = form;
+      allowed = mask;
+      «value_type» = valueType;
+      «num_values» = count;
+      precision = p;
+      «sparse_precision» = s;
+      «sparse_size» = size;
+      «sparse_len» = len;
+      «sparse_bytes» = bytes;
+      «pending_len» = waits;
+    }
+
 -- "A fresh head is unstarted with every number 0."
 abbrev pub fresh : Accumulator
-fresh =
-    record {
-      form = Unstarted;
-      allowed = 0;
-      «value_type» = 0;
-      «num_values» = 0;
-      precision = 0;
-      «sparse_precision» = 0;
-      «sparse_size» = 0;
-      «sparse_len» = 0;
-      «sparse_bytes» = 0;
-      «pending_len» = 0;
-    }
+fresh = headOf Unstarted 0 0 0 0 0 0 0 0 0
 
 -- The bounds that those numbers of a head have by their types that are written as they are.
 pub record HeadWidths (a : Accumulator) : Type 0 where

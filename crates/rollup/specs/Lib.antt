@@ -7,10 +7,6 @@ pub mod Writing
 pub mod WritingPaths
 pub mod Calls
 pub mod Cuts
-pub mod Paths
-pub mod Starting
-pub mod DensePaths
-pub mod Accepting
 pub mod Judging
+pub mod Stages
 pub mod Examples
-pub mod SparsePaths

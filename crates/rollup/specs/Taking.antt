@@ -1,7 +1,7 @@
 -- Taking in (document 01, module 6): what a roll-up is left as by what comes to it, path by path. What comes is numbers (`Incoming`) with a row of registers, a byte each, or
 -- with values; an empty row is none. A state is one case of it: `stateNumbers` in specs/Adding.
 use mathlib.Core.List.{List, [], _++_}
-use mathlib.Core.Bool.{Bool, true, false, cond, _&&_, not}
+use mathlib.Core.Bool.{Bool, cond, _&&_, not}
 use Prim.Native.Nat.{ℕ, _+_, _-_, _*_, _%_, _^_, min}
 use lib.Dec.{ltb, leb, eqb}
 use lib.Bits.{bitAnd}
@@ -14,7 +14,7 @@ use Rattle.rollup.specs.declared.accumulator.Accumulator.{Accumulator}
 use Rattle.rollup.specs.declared.incoming.Incoming.{Incoming}
 use Rattle.rollup.specs.declared.paths.Path.{Path}
 use Rattle.rollup.specs.declared.paths.Path.the-variants.{None, Waits, Sorts, Inserts, Merges}
-use Rattle.rollup.specs.Accumulator.{Mem, keptOf, waitingOf, limit}
+use Rattle.rollup.specs.Accumulator.{Mem, keptOf, waitingOf, limit, headOf}
 use Rattle.rollup.specs.Header.{isEmpty}
 
 -- What is to be left: the head, the register bytes, the values kept, and those waiting, in some order.
@@ -32,34 +32,10 @@ unchanged a m = record { head = a; registers = m .registers; kept = keptOf a m; 
 
 -- A head of list form, and a dense one.
 abbrev pub listHead : (mask valueType count p s size len bytes waits : ℕ) → Accumulator
-listHead mask valueType count p s size len bytes waits =
-    record {
-      form = Sparse;
-      allowed = mask;
-      «value_type» = valueType;
-      «num_values» = count;
-      precision = p;
-      «sparse_precision» = s;
-      «sparse_size» = size;
-      «sparse_len» = len;
-      «sparse_bytes» = bytes;
-      «pending_len» = waits;
-    }
+listHead = headOf Sparse
 
 abbrev pub denseHead : (mask valueType count p s size bytes : ℕ) → Accumulator
-denseHead mask valueType count p s size bytes =
-    record {
-      form = Dense;
-      allowed = mask;
-      «value_type» = valueType;
-      «num_values» = count;
-      precision = p;
-      «sparse_precision» = s;
-      «sparse_size» = size;
-      «sparse_len» = 0;
-      «sparse_bytes» = bytes;
-      «pending_len» = 0;
-    }
+denseHead mask valueType count p s size bytes = headOf Dense mask valueType count p s size 0 bytes 0
 
 -- "Masks intersect; value counts add as signed 64-bit numbers that wrap."
 abbrev pub commonMask : Accumulator → ℕ → ℕ
@@ -70,18 +46,8 @@ sumCount a count = (a .«num_values» + count) % 2 ^ 64
 
 abbrev pub counted : Accumulator → Incoming → Accumulator
 counted a x =
-    record {
-      form = a .form;
-      allowed = commonMask a (x .mask);
-      «value_type» = a .«value_type»;
-      «num_values» = sumCount a (x .«num_values»);
-      precision = a .precision;
-      «sparse_precision» = a .«sparse_precision»;
-      «sparse_size» = a .«sparse_size»;
-      «sparse_len» = a .«sparse_len»;
-      «sparse_bytes» = a .«sparse_bytes»;
-      «pending_len» = a .«pending_len»;
-    }
+    headOf (a .form) (commonMask a (x .mask)) (a .«value_type») (sumCount a (x .«num_values»)) (a .precision) (a .«sparse_precision») (a .«sparse_size»)
+    (a .«sparse_len») (a .«sparse_bytes») (a .«pending_len»)
 
 -- The same head with another list, and with registers: "with sparse size, kept count and kept bytes 0".
 abbrev pub withList : Accumulator → (size len bytes waits : ℕ) → Accumulator

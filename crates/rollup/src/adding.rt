@@ -8,7 +8,7 @@ ghost use lib.ListN.{length, take};
 ghost use Rattle.wire.specs.State.{stateOf};
 ghost use Rattle.rollup.specs.Accumulator.{mem};
 ghost use Rattle.rollup.specs.Adding.{numbersOf, acceptedAfter, Shows, AddPost};
-ghost use Rattle.rollup.specs.Accepting.{AcceptPre, decodedRefusal, distinctAfter, Sound, AcceptPost, FittingPost};
+ghost use Rattle.rollup.specs.Stages.{AcceptPre, decodedRefusal, distinctAfter, Sound, AcceptPost, FittingPost};
 use crate::accumulator::Accumulator;
 use crate::accumulator::Form;
 use crate::accumulator::MAX_PENDING;

@@ -5,7 +5,7 @@ ghost use mathlib.Core.Path.{_≡_};
 ghost use Prim.Native.Nat.{_-_};
 ghost use Rattle.lists.specs.Registers.{registersOf, withRegisters, larger, lowered, raisedLower};
 ghost use Rattle.rollup.specs.Taking.{commonMask, sumCount, signedMin, denseHead, raisedTo};
-ghost use Rattle.rollup.specs.DensePaths.{LowerOwnPre, LowerOwnPost, RaiseByRowPre, RaiseByListPre, RaisePre, DensePre, DensePost};
+ghost use Rattle.rollup.specs.Stages.{LowerOwnPre, LowerOwnPost, RaiseByRowPre, RaiseByListPre, RaisePre, DensePre, DensePost};
 use crate::accumulator::Accumulator;
 use crate::accumulator::Form;
 use crate::incoming::Incoming;

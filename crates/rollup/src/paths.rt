@@ -2,7 +2,7 @@
 // see NOTICE). Changed: the tests stand by themselves, in front of the first store, with an enum for the answer.
 ghost use mathlib.Core.Path.{_≡_};
 ghost use Rattle.rollup.specs.Taking.{waits, inserts, listPath, pathOf};
-ghost use Rattle.rollup.specs.Paths.{WaitPre, InsertsPre, ListPathPre, PathPre};
+ghost use Rattle.rollup.specs.Stages.{WaitPre, InsertsPre, PathPre};
 use crate::accumulator::Accumulator;
 use crate::accumulator::Form;
 use crate::fitting;
@@ -52,7 +52,7 @@ fn inserts(a: Accumulator, kept: &[u32], k: usize, distinct: bool) -> bool
 
 // The path of k values at a list roll-up.
 fn list_path(a: Accumulator, x: Incoming, kept: &[u32], k: usize, distinct: bool) -> Path
-    requires { ⌜ ListPathPre a x (now kept) k distinct ⌝ }
+    requires { ⌜ WaitPre a x k × InsertsPre a (now kept) distinct ⌝ }
     ensures { λ r. ⌜ r ≡ listPath a (now (kept .entry)) x k ⌝ }
 {
     if k == 0 {

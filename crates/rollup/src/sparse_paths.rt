@@ -13,8 +13,7 @@ ghost use Rattle.rollup.specs.declared.accumulator.Form.the-variants.{Sp
 ghost use Rattle.rollup.specs.Accumulator.{mem};
 ghost use Rattle.rollup.specs.Taking.{counted, withList, densed, settle, allMerged, sparseAfter};
 ghost use Rattle.rollup.specs.Adding.{Shows};
-ghost use Rattle.rollup.specs.SparsePaths.{SettlePre, Leaves, BackPre, JoinPre, MergeInPre, InsertInPre, SetListsPre, DensifyPre};
-ghost use Rattle.rollup.specs.Accepting.{TakingPre};
+ghost use Rattle.rollup.specs.Stages.{SettlePre, Leaves, BackPre, JoinPre, MergeInPre, InsertInPre, SetListsPre, DensifyPre, TakingPre};
 use crate::accumulator::Accumulator;
 use crate::accumulator::Form;
 use crate::fitting;

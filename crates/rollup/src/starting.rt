@@ -2,7 +2,7 @@
 // of `Vec`, and a contract on every function.
 ghost use mathlib.Core.Path.{_≡_};
 ghost use Rattle.rollup.specs.Taking.{listHead, denseHead};
-ghost use Rattle.rollup.specs.Starting.{StartPre, StartPost};
+ghost use Rattle.rollup.specs.Stages.{StartPre, StartPost};
 use crate::accumulator::Accumulator;
 use crate::accumulator::Form;
 use crate::incoming::Incoming;

@@ -3,7 +3,7 @@ ghost use lib.ListN.{take as first};
 ghost use Rattle.rollup.specs.Accumulator.{mem};
 ghost use Rattle.rollup.specs.Taking.{takenAfter};
 ghost use Rattle.rollup.specs.Adding.{Shows};
-ghost use Rattle.rollup.specs.Accepting.{TakingPre};
+ghost use Rattle.rollup.specs.Stages.{TakingPre};
 use crate::accumulator::Accumulator;
 use crate::accumulator::Form;
 use crate::dense_paths;

@@ -7,7 +7,7 @@ use denote.Ref.{now}
 use Rattle.wire.proofs.BoolLaws.{never, said-yes, said-no}
 use Rattle.rollup.specs.Accumulator.{Mem, mem}
 use Rattle.rollup.specs.Adding.{AddPost}
-use Rattle.rollup.specs.Paths.{KnownDistinct}
+use Rattle.rollup.specs.Stages.{KnownDistinct}
 use Rattle.batch.specs.Chain.{lengthAt}
 use Rattle.rollup.proofs.ViewLaws.{run-fits}
 use Rattle.lists.proofs.RegisterLaws.{not-yet}

@@ -8,7 +8,7 @@ use Rattle.wire.proofs.BoolLaws.{never}
 use Rattle.rollup.specs.declared.adding.Added.{Added}
 use Rattle.rollup.specs.Accumulator.{Mem, mem}
 use Rattle.rollup.specs.Adding.{AddPost}
-use Rattle.rollup.specs.Paths.{KnownDistinct}
+use Rattle.rollup.specs.Stages.{KnownDistinct}
 use Rattle.capi.specs.Folds.{between}
 use Rattle.capi.proofs.FoldLaws.{Folding, fold-start, state-from, state-to, fold-turn, fold-end}
 use borrow.Author.Needs.{needs}
