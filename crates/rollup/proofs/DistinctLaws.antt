@@ -1,14 +1,13 @@
 -- What is known of the list that is kept is so after each call: a merge leaves one that a merge can leave, and nothing else changes it but the first that is taken in
 -- and a row of registers.
 use Prim.Native.Nat.{ℕ}
-use mathlib.Core.Path.{_≡_, refl, sym, subst}
+use mathlib.Core.Path.{_≡_, sym, subst}
 use mathlib.Core.List.{List, [], _++_}
 use mathlib.Core.Bool.{Bool, true, false}
 use lib.Dec.{ltb}
 use lib.ListN.{length}
 use Rattle.wire.proofs.BoolLaws.{never}
-use Rattle.lists.specs.Lists.{distinctSlots}
-use Rattle.lists.proofs.MergeLaws.{merged-distinct}
+use Rattle.lists.proofs.MergeLaws.{merged-distinct, distinct-none}
 use Rattle.rollup.specs.declared.accumulator.Form.{Form}
 use Rattle.rollup.specs.declared.accumulator.Form.the-variants.{Unstarted, Sparse, Dense}
 use Rattle.rollup.specs.declared.accumulator.Accumulator.{Accumulator}
@@ -24,8 +23,7 @@ use Rattle.rollup.proofs.WaysLaws.{settle-ways, sparse-ways}
 
 -- No two values of no list are of one slot.
 none-known : (known : Bool) (p s : ℕ) → KnownDistinct known p s []
-unfolding distinctSlots
-none-known known p s e = refl
+none-known known p s e = distinct-none p s
 
 -- What is known of what is to be left.
 abbrev Still : Bool → After → Type 0

@@ -8,19 +8,17 @@ use native.Mathlib.Nat.{pos-of-ne-zero, min-le-left}
 use native.Mathlib.Omega.{arith}
 use lib.ListN.{length, take, length-take, length-replicate, length-append}
 use lib.Seq.{length-take-le, take-at}
-use lib.Pow.{pow-mono}
 use Rattle.wire.proofs.VarintLaws.{side}
 use borrow.Author.Tests.{lt-ltb, le-ltb, eq-eqb, ne-eqb}
 use Rattle.lists.specs.declared.values.Sparse.{Sparse as Encoding}
 use Rattle.lists.specs.declared.merging.Merged.{Merged}
-use Rattle.lists.specs.Values.{Pair, SparseFits, NewPost}
+use Rattle.lists.specs.Values.{SparseFits, NewPost}
 use Rattle.lists.specs.Sorting.{ascends, sortOf}
-use Rattle.lists.specs.Lists.{allValid, written, merged, distinctSlots, encodeList, MergePost, InsertPre, InsertPost}
+use Rattle.lists.specs.Lists.{allValid, written, merged, distinctSlots, MergePost, InsertPre, InsertPost}
 use Rattle.lists.specs.Merging.{MergePre}
 use Rattle.lists.specs.Registers.{registerBytes, registersOf, withRegisters, zeros, raisedBy, larger}
 use Rattle.lists.proofs.OrderLaws.{ascends-sort, length-sort, perm-sort}
-use Rattle.lists.proofs.MergeLaws.{valid-append, valid-sort, merged-perm, merged-valid, length-merged, length-encode}
-use Rattle.lists.proofs.DecodingLaws.{accepted, decode-encode}
+use Rattle.lists.proofs.MergeLaws.{valid-append, valid-sort, merged-perm, merged-valid, length-merged}
 use Rattle.lists.proofs.RegisterLaws.{of-with, with-room, with-with, row-registers}
 use Rattle.lists.proofs.RankLaws.{raised-append, zeros-raised}
 use Rattle.rollup.specs.declared.accumulator.Form.{Form}

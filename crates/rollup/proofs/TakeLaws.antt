@@ -1,5 +1,5 @@
 -- Taking in: an accepted state can be taken in, and what each form requires of what comes in.
-use Prim.Native.Nat.{ℕ, _+_, _<_, _≤_, _*_, _-_}
+use Prim.Native.Nat.{ℕ, _<_, _≤_, _-_}
 use mathlib.Core.Path.{_≡_, refl, sym, subst}
 use mathlib.Core.Bool.{true}
 use mathlib.Core.List.{List, []}
@@ -10,7 +10,7 @@ use lib.ListN.{length}
 use Rattle.wire.specs.Reading.{got}
 use Rattle.wire.specs.State.{State}
 use Rattle.wire.proofs.VarintLaws.{side}
-use Rattle.lists.specs.Registers.{registerBytes, registersOf, largest}
+use Rattle.lists.specs.Registers.{registerBytes}
 use Rattle.lists.proofs.DecodingLaws.{accepted}
 use Rattle.rollup.specs.declared.accumulator.Form.{Form}
 use Rattle.rollup.specs.declared.accumulator.Form.the-variants.{Unstarted, Sparse, Dense}

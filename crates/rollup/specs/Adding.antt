@@ -1,6 +1,6 @@
 -- Adding a state: the questions in order, and then it is taken in (document 01, module 6 and "The questions").
 use mathlib.Core.Path.{_≡_}
-use mathlib.Core.List.{List, [], List·Permᴰ}
+use mathlib.Core.List.{List, List·Permᴰ}
 use mathlib.Core.Option.{Option, none, some}
 use mathlib.Core.Bool.{Bool, true, false, cond, _&&_, _||_, not}
 use Prim.Native.Nat.{ℕ, _+_, _*_}

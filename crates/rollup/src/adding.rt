@@ -7,7 +7,7 @@ ghost use Prim.Native.Nat.{ℕ, _≤_};
 ghost use lib.ListN.{length, take};
 ghost use Rattle.wire.specs.State.{stateOf};
 ghost use Rattle.rollup.specs.Accumulator.{mem};
-ghost use Rattle.rollup.specs.Adding.{numbersOf, acceptedAfter, Shows, AddPost};
+ghost use Rattle.rollup.specs.Adding.{numbersOf, AddPost};
 ghost use Rattle.rollup.specs.Stages.{AcceptPre, decodedRefusal, distinctAfter, Sound, AcceptPost, FittingPost};
 use crate::accumulator::Accumulator;
 use crate::accumulator::Form;

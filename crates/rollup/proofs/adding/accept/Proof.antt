@@ -2,8 +2,6 @@
 use mathlib.Core.Path.{sym}
 use lib.Seq.{length-take-le}
 use denote.Ref.{now}
-use Rattle.wire.specs.State.{stateOf}
-use Rattle.rollup.specs.Accumulator.{Mem, mem}
 use Rattle.rollup.proofs.AddLaws.{accept-few, accept-kept, accept-path, accept-taking, accept-post}
 use borrow.Author.Needs.{needs}
 use Rattle.rollup.proofs.adding.accept.Statement.{statement}
