@@ -117,7 +117,7 @@ fn fitting_case(
         text::bad_case();
         return head;
     }
-    let r = rollup::adding::add_fitting(head, registers, sparse, pending, scratch, bytes);
+    let r = rollup::adding::add_fitting(head, false, registers, sparse, pending, scratch, bytes);
     answers::print_after(r.answer, r.head, &registers[..], &sparse[..], &pending[..]);
     r.head
 }

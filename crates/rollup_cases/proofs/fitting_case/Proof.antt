@@ -1,6 +1,5 @@
 -- `fitting_case` is safe: `add_fitting` is called where `fits` said yes.
-use mathlib.Core.Path.{sym, _∙_}
-use borrow.Author.Tests.{not-false}
+use Rattle.wire.proofs.BoolLaws.{never, said-yes}
 use borrow.Author.Needs.{needs}
 use Rattle.rollup_cases.proofs.fitting_case.Statement.{statement}
 use Rattle.rollup_cases.proofs.fitting_case.Tie as tie
@@ -24,7 +23,7 @@ returns : tie.Need-returns
 returns c = search needs
 
 add-fitting-requires : tie.Need-add-fitting-requires
-add-fitting-requires c κs = sym (c .before .before .before .before .before .fits2 .ensures) ∙ not-false _ (c .before .before .before .before .if1 .left)
+add-fitting-requires c κs = record { fit = said-yes (c .before .before .before .before .before .fits2 .ensures) (c .before .before .before .before .if1 .left); known = never }
 
 print-after-requires : tie.Need-print-after-requires
 print-after-requires c κs = search needs
