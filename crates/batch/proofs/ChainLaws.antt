@@ -13,7 +13,8 @@ use Rattle.wire.proofs.BoolLaws.{both-true}
 use Rattle.rollup.specs.declared.accumulator.Accumulator.{Accumulator}
 use Rattle.rollup.specs.declared.adding.Added.{Added}
 use Rattle.rollup.specs.Accumulator.{Mem, fresh}
-use Rattle.rollup.specs.Adding.{Free, AddPost}
+use Rattle.rollup.specs.Adding.{AddPost}
+use Rattle.rollup.specs.Taking.{Free}
 use Rattle.rollup.specs.Calls.{Call, added, begun, adding, Run, Unmoved}
 use Rattle.batch.specs.declared.records.Ending.{Ending}
 use Rattle.batch.specs.declared.records.Ending.the-variants.{Whole, Refused, Full}

@@ -14,8 +14,7 @@ use Rattle.lists.proofs.RankLaws.{zeros-raised}
 use Rattle.rollup.specs.declared.accumulator.Form.{Form}
 use Rattle.rollup.specs.declared.accumulator.Form.the-variants.{Unstarted, Sparse, Dense}
 use Rattle.rollup.specs.declared.accumulator.Accumulator.{Accumulator}
-use Rattle.rollup.specs.Accumulator.{Mem, fits, fresh}
-use Rattle.rollup.specs.Adding.{isStarted}
+use Rattle.rollup.specs.Accumulator.{Mem, fits, fresh, isStarted}
 use Rattle.rollup.specs.Writing.{writeOutcome}
 use Rattle.rollup.specs.Calls.{Unmoved, listRegisters, rollupRegisters}
 use Rattle.rollup.proofs.FitLaws.{fit-sparse}

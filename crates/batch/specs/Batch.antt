@@ -6,7 +6,7 @@ use Prim.Native.Nat.{ℕ}
 use lib.Dec.{leb, eqb}
 use lib.ListN.{length, take, drop}
 use Rattle.rollup.specs.Accumulator.{Mem}
-use Rattle.rollup.specs.Adding.{Free}
+use Rattle.rollup.specs.Taking.{Free}
 use Rattle.rollup.specs.Calls.{Call, added, Run}
 use Rattle.batch.specs.declared.records.Ending.{Ending}
 use Rattle.batch.specs.declared.records.Ending.the-variants.{Whole, Refused, Full}

@@ -12,7 +12,8 @@ use Rattle.wire.proofs.BoolLaws.{both, both-true}
 use Rattle.rollup.specs.declared.accumulator.Accumulator.{Accumulator}
 use Rattle.rollup.specs.declared.adding.Added.{Added}
 use Rattle.rollup.specs.Accumulator.{Mem, fits}
-use Rattle.rollup.specs.Adding.{Free, AddPost}
+use Rattle.rollup.specs.Adding.{AddPost}
+use Rattle.rollup.specs.Taking.{Free}
 use Rattle.rollup.specs.Calls.{Call, added, Steps, begun, adding, Run}
 use Rattle.rollup.proofs.AddLaws.{add-unfit, refused-post}
 use Rattle.rollup.proofs.ViewLaws.{add-keeps, steps-after}

@@ -8,7 +8,7 @@ use lib.ListN.{length, take, drop}
 use Rattle.rollup.specs.declared.accumulator.Accumulator.{Accumulator}
 use Rattle.rollup.specs.declared.adding.Added.{Added}
 use Rattle.rollup.specs.Accumulator.{Mem, fits}
-use Rattle.rollup.specs.Adding.{Free}
+use Rattle.rollup.specs.Taking.{Free}
 use Rattle.rollup.specs.Calls.{Call, Steps, Run}
 use Rattle.batch.specs.Batch.{addedAll}
 use Rattle.capi.specs.Heads.{isHead, headIn, withHead}

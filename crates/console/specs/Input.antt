@@ -112,7 +112,7 @@ hexOf (a ∷ b ∷ l) = byteThen (digitOf a) (digitOf b) (hexOf l)
 abbrev pub FrontOnly : ℕ → List ℕ → List ℕ → Type 0
 FrontOnly n before after = (drop n after ≡ drop n before) × (length after ≡ length before)
 
--- The bytes stand at the front, and the rest is as it was. Or the word is no byte string: as many cells as it has pairs of digits are free, and hold anything.
+-- The bytes stand at the front, and the rest is as it was. Or the word is no byte string: as many cells as it has pairs of bytes are free, and hold anything.
 -- Or it is one too long for the buffer, which is as it was.
 abbrev pub BytesPost : List ℕ → List ℕ → Bytes → List ℕ → Type 0
 BytesPost word out (Count n) after = (hexOf word ≡ some (take n after)) × FrontOnly n out after × Counts n after

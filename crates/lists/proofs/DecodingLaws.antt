@@ -261,21 +261,11 @@ abbrev pub sumsFrom : ℕ → ℕ → ℕ → ℕ → List ℕ → Read (List �
 sumsFrom p s n v rest = before v (sumsOf p s n rest v)
 
 module _ (p s n last : ℕ) where
-  step-sums : (r : Read ℕ)
-      → andThen r (λ gap rest. let v = (last + gap) % 2 ^ 32 in let more = before v (sumsOf p s n rest v) in cond (refusedHere p s last v) (refused 20) more)
-      ≡ andThen (andThen r (stepFrom p s last)) (sumsFrom p s n)
-  step-sums (refused k) = refl
-  step-sums (got gap rest) = pick ((last + gap) % 2 ^ 32) (refusedHere p s last ((last + gap) % 2 ^ 32))
-    where
-      pick : (v : ℕ) (t : Bool) → cond t (refused 20) (sumsFrom p s n v rest) ≡ andThen (cond t (refused 20) (got v rest)) (sumsFrom p s n)
-      pick v true = refl
-      pick v false = refl
-
   -- The values of bytes that are not at their end: the first one, and those of the rest.
   pub sums-step : (l : List ℕ) → 0 < length l → sumsOf p s (suc n) l last ≡ andThen (stepOf p s l last) (sumsFrom p s n)
-  unfolding sumsOf stepOf
+  unfolding sumsOf
   sums-step [] h = absurd (let z : ⊥ = omega arith in z)
-  sums-step (b ∷ l) h = step-sums (gapOf (b ∷ l))
+  sums-step (b ∷ l) h = refl
 
 pub sums-none : (p s n last : ℕ) → sumsOf p s n [] last ≡ got [] []
 unfolding sumsOf
@@ -600,17 +590,21 @@ gap-numbered l = go (varintOf 5 l)
     go (got v rest) = whichever Numbered (ltb v (2 ^ 32)) (got v rest) (refused 19) tt (omega arith)
     go (refused n) = cut (eqb n 3)
 
+step-numbered : (p s : ℕ) (l : List ℕ) (last : ℕ) → Numbered (stepOf p s l last)
+unfolding stepOf
+step-numbered p s l last =
+    numbered-then (gapOf l) (stepFrom p s last) (gap-numbered l)
+    (λ (gap : ℕ) (rest : List ℕ).
+    let v = (last + gap) % 2 ^ 32 in
+    whichever Numbered (refusedHere p s last v) (refused 20) (got v rest) (omega arith) tt)
+
 sums-numbered : (p s n : ℕ) (l : List ℕ) (last : ℕ) → Numbered (sumsOf p s n l last)
 unfolding sumsOf
 sums-numbered p s zero l last = tt
 sums-numbered p s (suc n) [] last = tt
 sums-numbered p s (suc n) (b ∷ l) last =
-    numbered-then (gapOf (b ∷ l))
-    (λ gap rest. cond (refusedHere p s last ((last + gap) % 2 ^ 32)) (refused 20) (before ((last + gap) % 2 ^ 32) (sumsOf p s n rest ((last + gap) % 2 ^ 32))))
-    (gap-numbered (b ∷ l))
-    (λ (gap : ℕ) (rest : List ℕ).
-    let v = (last + gap) % 2 ^ 32 in
-    whichever Numbered (refusedHere p s last v) (refused 20) (before v (sumsOf p s n rest v)) (omega arith) (more v (sumsOf p s n rest v) (sums-numbered p s n rest v)))
+    numbered-then (stepOf p s (b ∷ l) last) (sumsFrom p s n) (step-numbered p s (b ∷ l) last)
+    (λ (v : ℕ) (rest : List ℕ). more v (sumsOf p s n rest v) (sums-numbered p s n rest v))
   where
     more : (v : ℕ) (r : Read (List ℕ)) → Numbered r → Numbered (before v r)
     more v (got vs l) h = tt

@@ -641,7 +641,7 @@ lower-larger p s d q regs l e inside =
 
 -- ---- a merge
 
--- Two values of one slot are the same, or both marked and equal-or-not but for their low six bits.
+-- Two values of one slot are the same, or both marked and alike but for their low six bits.
 module _ (p s v w : ℕ) (e : slot p s w ≡ slot p s v) where
   same-slot : (w ≡ v) ⊎ ((marked p s w ≡ true) × (marked p s v ≡ true) × (w / 64 ≡ v / 64))
   same-slot =

@@ -9,7 +9,7 @@ use Rattle.wire.specs.Reading.{Read, got, refused}
 use Rattle.wire.specs.Varints.{varintOf}
 use Rattle.wire.specs.Examples.{Example, allHold}
 use Rattle.lists.specs.Values.{mark, marked, valid, register, plainRank, rank, loweredRank}
-use Rattle.lists.specs.Lists.{gapOf, sumsOf, allValid, decodeOf}
+use Rattle.lists.specs.Lists.{stepOf, gapOf, sumsOf, allValid, decodeOf}
 
 abbrev refusedWith : ℕ → Read (List ℕ) → Bool
 refusedWith n (got vs l) = false
@@ -34,5 +34,5 @@ listExamples =
     ∷ []
 
 pub list-examples-hold : allHold listExamples ≡ true
-unfolding mark marked valid register plainRank rank loweredRank leadingZeros varintOf gapOf sumsOf allValid decodeOf
+unfolding mark marked valid register plainRank rank loweredRank leadingZeros varintOf gapOf stepOf sumsOf allValid decodeOf
 list-examples-hold = refl

@@ -56,7 +56,11 @@ gapRefusal Long = 19
 abbrev pub refusedHere : ℕ → ℕ → ℕ → ℕ → Bool
 refusedHere p s last v = ltb v last || (marked p s v && ltb (65 - s) (markedRank v))
 
--- "Bytes are varint gaps from 0. Running sums wrap in u32." The first number bounds how many gaps there are: a gap has a byte or more.
+-- One value after `last`, and the bytes after its gap: "running sums wrap in u32". Where no bytes are left there is no gap (18).
+unfoldable pub stepOf : ℕ → ℕ → List ℕ → ℕ → Read ℕ
+stepOf p s l last = andThen (gapOf l) (λ gap rest. let v = (last + gap) % 2 ^ 32 in cond (refusedHere p s last v) (refused 20) (got v rest))
+
+-- "Bytes are varint gaps from 0." The first number bounds how many gaps there are: a gap has a byte or more.
 abbrev pub before : ℕ → Read (List ℕ) → Read (List ℕ)
 before v (got vs l) = got (v ∷ vs) l
 before v (refused n) = refused n
@@ -65,15 +69,7 @@ unfoldable pub sumsOf : ℕ → ℕ → ℕ → List ℕ → ℕ → Read (List 
 sumsOf p s zero l last = got [] l
 sumsOf p s (suc n) [] last = got [] []
 sumsOf p s (suc n) (b ∷ l) last =
-    andThen (gapOf (b ∷ l))
-    (λ gap rest.
-    let v = (last + gap) % 2 ^ 32 in
-    let more = before v (sumsOf p s n rest v) in
-    cond (refusedHere p s last v) (refused 20) more)
-
--- The first of those values, and the bytes after its gap.
-unfoldable pub stepOf : ℕ → ℕ → List ℕ → ℕ → Read ℕ
-stepOf p s l last = andThen (gapOf l) (λ gap rest. let v = (last + gap) % 2 ^ 32 in cond (refusedHere p s last v) (refused 20) (got v rest))
+    andThen (stepOf p s (b ∷ l) last) (λ v rest. before v (sumsOf p s n rest v))
 
 -- What an answer of `next_value` says of the bytes that it read from.
 abbrev pub nextValueMeans : List ℕ → Step → Read ℕ

@@ -46,7 +46,7 @@ plainRank bits v = cond (eqb bits 0) (cond (eqb v 0) 1 (1 + leadingZeros 64 v)) 
 unfoldable pub rank : ℕ → ℕ → ℕ → ℕ
 rank p s v = cond (marked p s v) (markedRank v + (s - p)) (plainRank (s - p) v)
 
--- The largest rank that a valid value may have: "no register above 88−p". With s = p a plain value's rank is up to 64, and p is up to 24; every
+-- A bound of every rank, lowered ones too: "no register above 88−p". With s = p a plain value's rank is up to 64, and p is up to 24; every
 -- other rank is at most 65 - p. Lowering by d bits adds at most d to a rank, and d to this.
 abbrev pub largestRank : ℕ → ℕ
 largestRank p = 88 - p

@@ -21,8 +21,8 @@ use Rattle.rollup.specs.declared.paths.Path.{Path}
 use Rattle.rollup.specs.declared.adding.AddedFitting.{AddedFitting}
 use Rattle.rollup.specs.Accumulator.{Mem, keptOf, fits}
 use Rattle.rollup.specs.Header.{dataOf, listOf}
-use Rattle.rollup.specs.Taking.{After, pathOf, takenAfter}
-use Rattle.rollup.specs.Adding.{Outcome, refuse, accept, numbersOf, stateNumbers, acceptedAfter, judge, hasRoom, listedIn, question, opened, addOutcome, judgeAnswer, Shows, Free, AddPost}
+use Rattle.rollup.specs.Taking.{After, pathOf, takenAfter, Shows, Free}
+use Rattle.rollup.specs.Adding.{Outcome, refuse, accept, numbersOf, stateNumbers, acceptedAfter, judge, hasRoom, listedIn, question, opened, addOutcome, judgeAnswer, AddPost}
 use Rattle.rollup.specs.Judging.{judgedRefusal, JudgePost, RoomPre, ListedPre}
 use Rattle.rollup.specs.Stages.{KnownDistinct, PathPre, TakePre, TakingPre, distinctAfter, AcceptPre, decodedRefusal, AcceptPost, FittingPost}
 use Rattle.rollup.proofs.FitLaws.{fit-sparse}

@@ -16,12 +16,12 @@ use Rattle.lists.specs.Registers.{larger, lowered}
 use Rattle.lists.proofs.RankLaws.{lowered-length, registers-larger, registers-twice}
 use Rattle.rollup.specs.declared.accumulator.Accumulator.{Accumulator}
 use Rattle.rollup.specs.declared.adding.Added.{Added}
-use Rattle.rollup.specs.Accumulator.{Mem, fresh}
+use Rattle.rollup.specs.Accumulator.{Mem, fresh, isStarted}
 use Rattle.rollup.specs.Header.{dataOf, maskOf}
-use Rattle.rollup.specs.Adding.{stateNumbers, isStarted, Shows}
+use Rattle.rollup.specs.Adding.{stateNumbers}
 use Rattle.rollup.specs.Stages.{TakePre}
 use Rattle.rollup.specs.Calls.{Call, added, wrote, moved, Moved, Steps, begun, adding, writing, moving, Run, accepted, stateIn, valuesIn, states, registersIn, over, smallestPrecision, smallestSparsePrecision, commonBits, largestRegisters, rollupRegisters, Answered, NoZeroRank, Agrees, DemandThree, OrderFree}
-use Rattle.rollup.specs.Taking.{signedMin, unchanged}
+use Rattle.rollup.specs.Taking.{signedMin, unchanged, Shows}
 use Rattle.rollup.proofs.TakeLaws.{ready-takes}
 use Rattle.rollup.proofs.ViewLaws.{IsRefused, IsAccepted, add-view, run-fits, sparse-small}
 use Rattle.rollup.proofs.AgreementLaws.{lowered-here, Took, same-registers, moved-registers, taken-length, first-took, more-took}

@@ -22,12 +22,11 @@ use Rattle.rollup.specs.declared.accumulator.Form.{Form}
 use Rattle.rollup.specs.declared.accumulator.Form.the-variants.{Unstarted, Sparse, Dense}
 use Rattle.rollup.specs.declared.accumulator.Accumulator.{Accumulator}
 use Rattle.rollup.specs.declared.incoming.Incoming.{Incoming}
-use Rattle.rollup.specs.Accumulator.{Mem, keptOf, waitingOf, limit}
+use Rattle.rollup.specs.Accumulator.{Mem, keptOf, waitingOf, limit, isStarted}
 use Rattle.rollup.specs.Header.{isEmpty}
-use Rattle.rollup.specs.Adding.{isStarted, Shows}
 use Rattle.rollup.specs.Stages.{TakePre}
 use Rattle.rollup.specs.Calls.{Moved, listRegisters, takenRegisters, rollupRegisters}
-use Rattle.rollup.specs.Taking.{After, unchanged, commonMask, counted, startList, startDense, startAfter, asList, asDense, settle, waits, inserts, listPath, allMerged, asWaiting, listAfter, rowTaken, sparseAfter, signedKey, signedMin, raisedTo, denseAfter, takenAfter}
+use Rattle.rollup.specs.Taking.{After, unchanged, commonMask, counted, startList, startDense, startAfter, asList, asDense, settle, waits, inserts, listPath, allMerged, asWaiting, listAfter, rowTaken, sparseAfter, signedKey, signedMin, raisedTo, denseAfter, takenAfter, Shows}
 use Rattle.rollup.proofs.FitLaws.{FitSparse, fit-sparse}
 use Rattle.rollup.proofs.JudgeLaws.{none-is}
 use Rattle.rollup.proofs.KeepsLaws.{no-data, some-data, registers-room, vs-valid, both-valid}

@@ -18,8 +18,7 @@ use Rattle.lists.proofs.RankLaws.{registers-same, lower-none, lowered-length}
 use Rattle.rollup.specs.declared.accumulator.Accumulator.{Accumulator}
 use Rattle.rollup.specs.declared.incoming.Incoming.{Incoming}
 use Rattle.rollup.specs.Accumulator.{mem}
-use Rattle.rollup.specs.Taking.{After, denseHead, commonMask, sumCount, signedMin, raisedTo, denseAfter}
-use Rattle.rollup.specs.Adding.{Shows}
+use Rattle.rollup.specs.Taking.{After, denseHead, commonMask, sumCount, signedMin, raisedTo, denseAfter, Shows}
 use Rattle.rollup.specs.Stages.{LowerOwnPre, LowerOwnPost, RaiseByRowPre, RaiseByListPre, RaisePre, DensePre, DensePost}
 
 -- ---- the smaller as signed numbers
@@ -196,7 +195,7 @@ module _ (q : ℕ) (x : Incoming) (row vs registers : List ℕ) (pre : RaisePre 
 
 -- ---- a dense roll-up
 
--- A head whose numbers are others' names.
+-- A dense head with equal numbers.
 pub dense-head-is : {x v n m q s t z bytes : ℕ} → n ≡ m → s ≡ t → denseHead x v n q s z bytes ≡ denseHead x v m q t z bytes
 dense-head-is {x} {v} {n} {m} {q} {s} {t} {z} {bytes} e f = ap₂ (λ (a b : ℕ). denseHead x v a q b z bytes) e f
 

@@ -16,8 +16,7 @@ use Rattle.rollup.specs.declared.paths.Path.{Path}
 use Rattle.rollup.specs.declared.paths.Path.the-variants.{None, Waits, Sorts, Inserts, Merges}
 use Rattle.rollup.specs.Accumulator.{Mem, keptOf, waitingOf, limit}
 use Rattle.rollup.specs.Header.{isEmpty}
-use Rattle.rollup.specs.Taking.{After, counted, settle, pathOf, allMerged, listAfter, denseAfter, takenAfter}
-use Rattle.rollup.specs.Adding.{Shows}
+use Rattle.rollup.specs.Taking.{After, counted, settle, pathOf, allMerged, listAfter, denseAfter, takenAfter, Shows}
 use Rattle.rollup.specs.Stages.{KnownDistinct, TakePre, distinctAfter}
 use Rattle.rollup.proofs.WaysLaws.{settle-ways, sparse-ways}
 

@@ -24,11 +24,11 @@ use Rattle.rollup.specs.declared.accumulator.Accumulator.{Accumulator}
 use Rattle.rollup.specs.declared.incoming.Incoming.{Incoming}
 use Rattle.rollup.specs.Accumulator.{Mem, mem, keptOf, waitingOf, limit, maxPending, fits}
 use Rattle.rollup.specs.Header.{isEmpty}
-use Rattle.rollup.specs.Adding.{refuse, wantedPrecision, Shows}
+use Rattle.rollup.specs.Adding.{refuse, wantedPrecision}
 use Rattle.rollup.specs.Stages.{TakePre}
 use Rattle.rollup.specs.declared.writing.Written.{Written}
 use Rattle.rollup.specs.Writing.{WritePost}
-use Rattle.rollup.specs.Taking.{After, unchanged, counted, densed, startList, startDense, startAfter, asList, settle, waits, inserts, listPath, allMerged, asWaiting, listAfter, rowTaken, sparseAfter, signedKey, raisedTo, denseAfter, takenAfter}
+use Rattle.rollup.specs.Taking.{After, unchanged, counted, densed, startList, startDense, startAfter, asList, settle, waits, inserts, listPath, allMerged, asWaiting, listAfter, rowTaken, sparseAfter, signedKey, raisedTo, denseAfter, takenAfter, Shows}
 use Rattle.rollup.proofs.FitLaws.{limit-small, NoLists, FitSparse, FitDense, fit-none, fit-none-back, fit-sparse, fit-sparse-back, fit-dense, fit-dense-back}
 use Rattle.rollup.proofs.WaysLaws.{start-ways, settle-ways, list-ways, sparse-ways}
 

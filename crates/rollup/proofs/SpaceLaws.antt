@@ -14,9 +14,9 @@ use Rattle.rollup.specs.declared.accumulator.Form.the-variants.{Unstarte
 use Rattle.rollup.specs.declared.accumulator.Accumulator.{Accumulator}
 use Rattle.rollup.specs.declared.incoming.Incoming.{Incoming}
 use Rattle.rollup.specs.declared.adding.Added.{Added}
-use Rattle.rollup.specs.Accumulator.{Mem, keptOf, limit, fits}
+use Rattle.rollup.specs.Accumulator.{Mem, keptOf, limit, fits, isStarted}
 use Rattle.rollup.specs.Header.{dataOf, isEmpty}
-use Rattle.rollup.specs.Adding.{stateNumbers, isStarted, wantedPrecision, AddPost}
+use Rattle.rollup.specs.Adding.{stateNumbers, wantedPrecision, AddPost}
 use Rattle.rollup.specs.Calls.{Call, Steps, begun, adding, writing, moving, Unmoved, stateIn, valuesIn}
 use Rattle.rollup.specs.Taking.{After, counted, settle, waits, inserts, denseAfter, takenAfter}
 use Rattle.rollup.proofs.TakeLaws.{ready-takes}

@@ -28,8 +28,8 @@ use Rattle.rollup.specs.declared.incoming.Incoming.{Incoming}
 use Rattle.rollup.specs.declared.paths.Path.{Path}
 use Rattle.rollup.specs.declared.paths.Path.the-variants.{None, Waits, Sorts, Inserts, Merges}
 use Rattle.rollup.specs.Accumulator.{Mem, mem, keptOf, waitingOf, limit}
-use Rattle.rollup.specs.Taking.{After, commonMask, sumCount, counted, withList, densed, asList, asDense, settle, listPath, allMerged, listAfter, rowTaken, sparseAfter}
-use Rattle.rollup.specs.Adding.{wantedPrecision, Shows}
+use Rattle.rollup.specs.Taking.{After, commonMask, sumCount, counted, withList, densed, asList, asDense, settle, listPath, allMerged, listAfter, rowTaken, sparseAfter, Shows}
+use Rattle.rollup.specs.Adding.{wantedPrecision}
 use Rattle.rollup.specs.Stages.{SettlePre, Leaves, BackPre, JoinPre, ListReady, ListRoom, MergeInPre, InsertInPre, DensifyPre, TakingPre}
 use Rattle.rollup.proofs.FitLaws.{FitSparse, fit-sparse, counts-short}
 use Rattle.rollup.proofs.PathLaws.{isSome, path-form, path-some, path-inserts}

@@ -14,8 +14,7 @@ use Rattle.rollup.specs.declared.accumulator.Accumulator.{Accumulator}
 use Rattle.rollup.specs.declared.incoming.Incoming.{Incoming}
 use Rattle.rollup.specs.Accumulator.{mem}
 use Rattle.rollup.specs.Header.{isEmpty}
-use Rattle.rollup.specs.Taking.{listHead, denseHead, startList, startDense, startAfter}
-use Rattle.rollup.specs.Adding.{Shows}
+use Rattle.rollup.specs.Taking.{listHead, denseHead, startList, startDense, startAfter, Shows}
 use Rattle.rollup.specs.Stages.{StartPre, StartPost}
 use Rattle.rollup.proofs.DenseLaws.{dense-shown}
 

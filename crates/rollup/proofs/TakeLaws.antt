@@ -18,8 +18,8 @@ use Rattle.rollup.specs.declared.accumulator.Accumulator.{Accumulator}
 use Rattle.rollup.specs.declared.incoming.Incoming.{Incoming}
 use Rattle.rollup.specs.Accumulator.{Mem, mem, fits}
 use Rattle.rollup.specs.Header.{dataOf, listOf}
-use Rattle.rollup.specs.Taking.{takenAfter, sparseAfter}
-use Rattle.rollup.specs.Adding.{stateNumbers, judgeAnswer, wantedPrecision, hasRoom, listedIn, Shows}
+use Rattle.rollup.specs.Taking.{takenAfter, sparseAfter, Shows}
+use Rattle.rollup.specs.Adding.{stateNumbers, judgeAnswer, wantedPrecision, hasRoom, listedIn}
 use Rattle.rollup.specs.Stages.{StartPre, StartPost, DensePre, DensePost, TakePre}
 use Rattle.rollup.proofs.FitLaws.{fit-none, fit-sparse, fit-dense}
 use Rattle.rollup.proofs.JudgeLaws.{judged-facts, room-facts}

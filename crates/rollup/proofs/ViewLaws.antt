@@ -14,9 +14,9 @@ use Rattle.rollup.specs.declared.accumulator.Accumulator.{Accumulator}
 use Rattle.rollup.specs.declared.adding.Added.{Added}
 use Rattle.rollup.specs.Accumulator.{Mem, fits, fresh}
 use Rattle.rollup.specs.Header.{dataOf, listOf}
-use Rattle.rollup.specs.Adding.{Outcome, refuse, accept, acceptedAfter, judge, hasRoom, listedIn, addOutcome, stateNumbers, Shows, AddPost}
+use Rattle.rollup.specs.Adding.{Outcome, refuse, accept, acceptedAfter, judge, hasRoom, listedIn, addOutcome, stateNumbers, AddPost}
 use Rattle.rollup.specs.Calls.{Call, Steps, begun, adding, writing, moving, Run, valueOr, stateIn, valuesIn}
-use Rattle.rollup.specs.Taking.{unchanged}
+use Rattle.rollup.specs.Taking.{unchanged, Shows}
 use Rattle.rollup.proofs.FitLaws.{fit-none-back}
 use Rattle.rollup.proofs.JudgeLaws.{JudgedRead, judge-got, judge-number, list-short}
 use Rattle.rollup.proofs.AddLaws.{add-judged, add-full, add-listed, add-accepted}

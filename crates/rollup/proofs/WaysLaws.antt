@@ -1,4 +1,4 @@
--- The ways that what is taken in goes. What holds of the outcome of each way that there is holds of the outcome.
+-- The ways of what is taken in. What holds of the outcome of each way that there is holds of the outcome.
 use Prim.Native.Nat.{ℕ, _+_, _-_}
 use mathlib.Core.Path.{_≡_, sym, subst}
 use mathlib.Core.List.{List}

@@ -36,8 +36,7 @@ use Rattle.rollup.specs.declared.accumulator.Form.{Form}
 use Rattle.rollup.specs.declared.accumulator.Form.the-variants.{Unstarted, Sparse, Dense}
 use Rattle.rollup.specs.declared.accumulator.Accumulator.{Accumulator}
 use Rattle.rollup.specs.declared.writing.Written.{Written}
-use Rattle.rollup.specs.Accumulator.{Mem, mem, keptOf, waitingOf, limit, fits}
-use Rattle.rollup.specs.Adding.{isStarted}
+use Rattle.rollup.specs.Accumulator.{Mem, mem, keptOf, waitingOf, limit, fits, isStarted}
 use Rattle.rollup.specs.Writing.{flushed, currentSize, stateWith, stateForm, belowLimit, unless, writeOutcome, WritePost}
 use Rattle.rollup.specs.WritingPaths.{Writes, writtenFields, listOutcome, ValuesPre, FlushPre, FlushPost}
 use Rattle.rollup.proofs.FitLaws.{FitSparse, fits-form, fit-sparse, fit-dense, limit-small, counts-short}

@@ -21,9 +21,9 @@ use Rattle.lists.proofs.RegisterLaws.{of-length}
 use Rattle.rollup.specs.declared.accumulator.Form.{Form}
 use Rattle.rollup.specs.declared.accumulator.Form.the-variants.{Unstarted, Sparse, Dense}
 use Rattle.rollup.specs.declared.accumulator.Accumulator.{Accumulator}
-use Rattle.rollup.specs.Accumulator.{Mem, HeadWidths}
+use Rattle.rollup.specs.Accumulator.{Mem, HeadWidths, isStarted}
 use Rattle.rollup.specs.Header.{dataOf}
-use Rattle.rollup.specs.Adding.{isStarted, listedIn, addOutcome}
+use Rattle.rollup.specs.Adding.{listedIn, addOutcome}
 use Rattle.rollup.specs.Cuts.{NoCutAccepted}
 use Rattle.rollup.specs.Writing.{flushed, currentSize, stateWith, stateForm, writeOutcome}
 use Rattle.rollup.proofs.FitLaws.{fit-sparse, fit-dense, limit-small}

@@ -18,9 +18,9 @@ use Rattle.rollup.specs.declared.accumulator.Form.{Form}
 use Rattle.rollup.specs.declared.accumulator.Form.the-variants.{Unstarted, Sparse, Dense}
 use Rattle.rollup.specs.declared.accumulator.Accumulator.{Accumulator}
 use Rattle.rollup.specs.declared.writing.Written.{Written}
-use Rattle.rollup.specs.Accumulator.{Mem, keptOf, waitingOf}
+use Rattle.rollup.specs.Accumulator.{Mem, keptOf, waitingOf, isStarted}
 use Rattle.rollup.specs.Header.{dataOf, isEmpty}
-use Rattle.rollup.specs.Adding.{isStarted, listedIn, addOutcome}
+use Rattle.rollup.specs.Adding.{listedIn, addOutcome}
 use Rattle.rollup.specs.Writing.{flushed, currentSize, stateWith, stateForm, writeOutcome, WritePost}
 use Rattle.rollup.specs.Calls.{valueOr, stateIn, valuesIn, listRegisters, registersIn, rollupRegisters, WrittenReads, NoPrefixAccepted}
 use Rattle.rollup.proofs.FitLaws.{fit-dense}

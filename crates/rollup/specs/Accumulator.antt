@@ -1,6 +1,6 @@
 -- The accumulator (document 01's head) and its lent memory, and what fits (question 1).
 use mathlib.Core.List.{List}
-use mathlib.Core.Bool.{Bool, _&&_, _||_, not}
+use mathlib.Core.Bool.{Bool, true, false, _&&_, _||_, not}
 use Prim.Native.Nat.{ℕ, _+_, _-_, _*_, _^_, _<_}
 use lib.Dec.{ltb, leb, eqb}
 use lib.ListN.{length, take}
@@ -23,6 +23,12 @@ pub record Mem : Type 0 where
 
 abbrev pub mem : List ℕ → List ℕ → List ℕ → Mem
 mem registers sparse pending = record { registers = registers; sparse = sparse; pending = pending }
+
+-- Whether something was taken in.
+abbrev pub isStarted : Form → Bool
+isStarted Unstarted = false
+isStarted Sparse = true
+isStarted Dense = true
 
 -- The values that are kept, and those that wait: up to their counts.
 abbrev pub keptOf : Accumulator → Mem → List ℕ
@@ -57,8 +63,12 @@ abbrev pub noLists : Accumulator → Bool
 noLists a = eqb (a .«sparse_len») 0 && eqb (a .«pending_len») 0
 
 -- "With values waiting, kept bytes + 5 × waiting < L."
+-- Kept bytes, and five for each value that waits.
+abbrev pub waitingBound : Accumulator → ℕ
+waitingBound a = a .«sparse_bytes» + 5 * a .«pending_len»
+
 abbrev pub waitingFits : Accumulator → Bool
-waitingFits a = eqb (a .«pending_len») 0 || ltb (a .«sparse_bytes» + 5 * a .«pending_len») (limit (a .precision))
+waitingFits a = eqb (a .«pending_len») 0 || ltb (waitingBound a) (limit (a .precision))
 
 -- "The two counts fit their own lists", of so many cells; "waiting at most 2048, kept bytes .. to 2,147,483,647".
 unfoldable pub countsFit : Accumulator → ℕ → ℕ → Bool
@@ -103,8 +113,8 @@ fits a m = fitsForm (a .form) a m
 -- ---- what a head tells
 
 -- A head of its ten numbers.
-abbrev pub headOf : Form → (mask valueType count p s size len bytes waits : ℕ) → Accumulator
-headOf form mask valueType count p s size len bytes waits =
+abbrev pub headOf : Form → (mask valueType count p s size len bytes waiting : ℕ) → Accumulator
+headOf form mask valueType count p s size len bytes waiting =
     record {
       form = form;
       allowed = mask;
@@ -115,7 +125,7 @@ headOf form mask valueType count p s size len bytes waits =
       «sparse_size» = size;
       «sparse_len» = len;
       «sparse_bytes» = bytes;
-      «pending_len» = waits;
+      «pending_len» = waiting;
     }
 
 -- "A fresh head is unstarted with every number 0."

@@ -1,6 +1,6 @@
 -- Adding a state: the questions in order, and then it is taken in (document 01, module 6 and "The questions").
 use mathlib.Core.Path.{_≡_}
-use mathlib.Core.List.{List, List·Permᴰ}
+use mathlib.Core.List.{List}
 use mathlib.Core.Option.{Option, none, some}
 use mathlib.Core.Bool.{Bool, true, false, cond, _&&_, _||_, not}
 use Prim.Native.Nat.{ℕ, _+_, _*_}
@@ -15,9 +15,9 @@ use Rattle.rollup.specs.declared.accumulator.Form.the-variants.{Unstarte
 use Rattle.rollup.specs.declared.accumulator.Accumulator.{Accumulator}
 use Rattle.rollup.specs.declared.incoming.Incoming.{Incoming}
 use Rattle.rollup.specs.declared.adding.Added.{Added}
-use Rattle.rollup.specs.Accumulator.{Mem, keptOf, waitingOf, maxPending, fits}
+use Rattle.rollup.specs.Accumulator.{Mem, maxPending, isStarted, fits}
 use Rattle.rollup.specs.Header.{ask, first, dataOf, listOf, isEmpty, maskOf, headerAnswer, passing, readHeader}
-use Rattle.rollup.specs.Taking.{After, unchanged, commonMask, takenAfter}
+use Rattle.rollup.specs.Taking.{After, unchanged, Shows, Free, commonMask, takenAfter}
 
 -- The answer, 0 for accepted, and what is left.
 pub record Outcome : Type 0 where
@@ -56,11 +56,6 @@ abbrev pub acceptedAfter : Form → Accumulator → Mem → State → List ℕ �
 acceptedAfter f a m st vs = takenAfter f a m (stateNumbers st vs) (dataOf st) vs
 
 -- ---- the questions
-
-abbrev pub isStarted : Form → Bool
-isStarted Unstarted = false
-isStarted Sparse = true
-isStarted Dense = true
 
 -- "15: Started: do the masks meet?"
 abbrev pub masksMeet : Accumulator → State → Bool
@@ -138,20 +133,6 @@ addOutcome a m room bytes =
     (λ st. question (hasRoom a m room st) 17 a m (opened (listedIn st) a m (λ vs. accept (acceptedAfter (a .form) a m st vs)))))
 
 -- ---- the contract
-
--- What a call left is what it was to leave. The order in `pending` is free.
-pub record Shows (x : After) (a : Accumulator) (m : Mem) : Type 0 where
-  pub head : a ≡ x .head
-  pub registers : m .registers ≡ x .registers
-  pub kept : keptOf a m ≡ x .kept
-  pub waiting : List·Permᴰ (waitingOf a m) (x .waiting)
-
--- What is free: `scratch`, and the cells of the lists past their counts, may hold anything after a call; how many cells there are stays. Besides the
--- order in `pending` (`waiting` of `Shows`) nothing else is free.
-pub record Free (m n : Mem) : Type 0 where
-  pub registers : length (n .registers) ≡ length (m .registers)
-  pub sparse : length (n .sparse) ≡ length (m .sparse)
-  pub pending : length (n .pending) ≡ length (m .pending)
 
 pub record AddPost (a : Accumulator) (m : Mem) (room : ℕ) (bytes : List ℕ) (r : Added) (n : Mem) : Type 0 where
   pub answer : r .answer ≡ addOutcome a m room bytes .answer

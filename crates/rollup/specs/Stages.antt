@@ -18,8 +18,8 @@ use Rattle.rollup.specs.declared.accumulator.Form.the-variants.{Unstarte
 use Rattle.rollup.specs.declared.accumulator.Accumulator.{Accumulator}
 use Rattle.rollup.specs.declared.incoming.Incoming.{Incoming}
 use Rattle.rollup.specs.Accumulator.{Mem, mem, keptOf, maxPending, fits}
-use Rattle.rollup.specs.Taking.{startAfter, After, denseAfter, pathOf}
-use Rattle.rollup.specs.Adding.{Shows, stateNumbers, acceptedAfter, wantedPrecision, AddPost}
+use Rattle.rollup.specs.Taking.{startAfter, After, denseAfter, pathOf, Shows}
+use Rattle.rollup.specs.Adding.{stateNumbers, acceptedAfter, wantedRegisters, AddPost}
 use Rattle.rollup.specs.declared.accumulator.Form.{Form}
 use Rattle.rollup.specs.declared.paths.Path.{Path}
 use Rattle.rollup.specs.declared.paths.Path.the-variants.{None, Waits, Sorts, Inserts, Merges}
@@ -52,7 +52,7 @@ pub record InsertsPre (a : Accumulator) (kept : List ℕ) (distinct : Bool) : Ty
 abbrev pub PathPre : Accumulator → Incoming → List ℕ → ℕ → Bool → Type 0
 PathPre a x kept k distinct = a .form ≡ Sparse → WaitPre a x k × InsertsPre a kept distinct
 
--- ---- what is taken in first (src/starting). Of the lent memory that a function does not take, nothing counts but that it was there.
+-- ---- what is taken in first (src/starting). The lent memory that a function does not take may hold anything.
 
 -- A row of 2^p registers, or none, and room for it and for the values.
 pub record StartPre (registers sparse : List ℕ) (x : Incoming) (row vs : List ℕ) : Type 0 where
@@ -211,7 +211,7 @@ pub record TakePre (a : Accumulator) (m : Mem) (room : ℕ) (x : Incoming) (row 
   pub all : allValid (x .precision) (x .«sparse_precision») vs ≡ true
   pub same-normal : a .form ≡ Sparse → x .precision ≡ a .precision
   pub same-sparse : a .form ≡ Sparse → x .«sparse_precision» ≡ a .«sparse_precision»
-  pub in-registers : registerBytes (wantedPrecision (a .form) a (x .precision)) ≤ length (m .registers)
+  pub in-registers : wantedRegisters a (x .precision) ≤ length (m .registers)
   pub in-lists : 0 < length vs → ListRoom a (length vs) (length (m .sparse)) (length (m .pending)) room
   pub bytes-low : written vs ≤ x .«list_bytes»
   pub bytes-high : x .«list_bytes» ≤ 2147483647

@@ -1,6 +1,7 @@
 -- Taking in (document 01, module 6): what a roll-up is left as by what comes to it, path by path. What comes is numbers (`Incoming`) with a row of registers, a byte each, or
 -- with values; an empty row is none. A state is one case of it: `stateNumbers` in specs/Adding.
-use mathlib.Core.List.{List, [], _++_}
+use mathlib.Core.Path.{_≡_}
+use mathlib.Core.List.{List, [], _++_, List·Permᴰ}
 use mathlib.Core.Bool.{Bool, cond, _&&_, not}
 use Prim.Native.Nat.{ℕ, _+_, _-_, _*_, _%_, _^_, min}
 use lib.Dec.{ltb, leb, eqb}
@@ -14,7 +15,7 @@ use Rattle.rollup.specs.declared.accumulator.Accumulator.{Accumulator}
 use Rattle.rollup.specs.declared.incoming.Incoming.{Incoming}
 use Rattle.rollup.specs.declared.paths.Path.{Path}
 use Rattle.rollup.specs.declared.paths.Path.the-variants.{None, Waits, Sorts, Inserts, Merges}
-use Rattle.rollup.specs.Accumulator.{Mem, keptOf, waitingOf, limit, headOf}
+use Rattle.rollup.specs.Accumulator.{Mem, keptOf, waitingOf, limit, waitingBound, headOf}
 use Rattle.rollup.specs.Header.{isEmpty}
 
 -- What is to be left: the head, the register bytes, the values kept, and those waiting, in some order.
@@ -28,16 +29,30 @@ pub record After : Type 0 where
 abbrev pub unchanged : Accumulator → Mem → After
 unchanged a m = record { head = a; registers = m .registers; kept = keptOf a m; waiting = waitingOf a m }
 
+-- What a call left is what it was to leave. The order in `pending` is free.
+pub record Shows (x : After) (a : Accumulator) (m : Mem) : Type 0 where
+  pub head : a ≡ x .head
+  pub registers : m .registers ≡ x .registers
+  pub kept : keptOf a m ≡ x .kept
+  pub waiting : List·Permᴰ (waitingOf a m) (x .waiting)
+
+-- What is free: `scratch`, and the cells of the lists past their counts, may hold anything after a call; how many cells there are stays. Besides the
+-- order in `pending` (`waiting` of `Shows`) nothing else is free.
+pub record Free (m n : Mem) : Type 0 where
+  pub registers : length (n .registers) ≡ length (m .registers)
+  pub sparse : length (n .sparse) ≡ length (m .sparse)
+  pub pending : length (n .pending) ≡ length (m .pending)
+
 -- ---- heads
 
 -- A head of list form, and a dense one.
-abbrev pub listHead : (mask valueType count p s size len bytes waits : ℕ) → Accumulator
+abbrev pub listHead : (mask valueType count p s size len bytes waiting : ℕ) → Accumulator
 listHead = headOf Sparse
 
 abbrev pub denseHead : (mask valueType count p s size bytes : ℕ) → Accumulator
 denseHead mask valueType count p s size bytes = headOf Dense mask valueType count p s size 0 bytes 0
 
--- "Masks intersect; value counts add as signed 64-bit numbers that wrap."
+-- "masks intersect; value counts add as signed 64-bit numbers that wrap."
 abbrev pub commonMask : Accumulator → ℕ → ℕ
 commonMask a mask = bitAnd (a .allowed) mask
 
@@ -50,9 +65,9 @@ counted a x =
     (a .«sparse_len») (a .«sparse_bytes») (a .«pending_len»)
 
 -- The same head with another list, and with registers: "with sparse size, kept count and kept bytes 0".
-abbrev pub withList : Accumulator → (size len bytes waits : ℕ) → Accumulator
-withList h size len bytes waits =
-    listHead (h .allowed) (h .«value_type») (h .«num_values») (h .precision) (h .«sparse_precision») size len bytes waits
+abbrev pub withList : Accumulator → (size len bytes waiting : ℕ) → Accumulator
+withList h size len bytes waiting =
+    listHead (h .allowed) (h .«value_type») (h .«num_values») (h .precision) (h .«sparse_precision») size len bytes waiting
 
 abbrev pub densed : Accumulator → Accumulator
 densed h = denseHead (h .allowed) (h .«value_type») (h .«num_values») (h .precision) (h .«sparse_precision») 0 0
@@ -101,7 +116,7 @@ settle h registers l bytes = cond (ltb bytes (limit (h .precision))) (asList h r
 
 -- "A list of k values at a sparse roll-up waits if kept bytes + 5 × waiting + 5 × k < L and waiting + k ≤ 2048." Of a state, `growth` is 5 × k and `most` 2048.
 abbrev pub waits : Accumulator → Incoming → ℕ → Bool
-waits a x k = ltb (a .«sparse_bytes» + 5 * a .«pending_len» + x .growth) (limit (a .precision)) && leb (a .«pending_len» + k) (x .most)
+waits a x k = ltb (waitingBound a + x .growth) (limit (a .precision)) && leb (a .«pending_len» + k) (x .most)
 
 -- "With k ≤ 16 and 16 × k ≤ kept count, it is inserted"; and the Difference: "Where kept holds equal values or two marked values of one index .. the roll-up merges
 -- instead."
@@ -152,7 +167,8 @@ rowTaken h m row =
       waiting = [];
     }
 
--- "At a sparse roll-up a state without list or data bytes changes no more": a list of bytes has a value (`some` of `Accepted`, in lists' proofs).
+-- "At a sparse roll-up a state without list or data bytes changes no more": an accepted list has values just where it has bytes (`some` and `fewer` of `Accepted`, in lists'
+-- proofs/DecodingLaws).
 unfoldable pub sparseAfter : Accumulator → Mem → Incoming → (row vs : List ℕ) → After
 sparseAfter a m x row vs =
     let h = counted a x in

@@ -14,10 +14,9 @@ use Rattle.rollup.specs.declared.accumulator.Form.{Form}
 use Rattle.rollup.specs.declared.accumulator.Form.the-variants.{Unstarted, Sparse, Dense}
 use Rattle.rollup.specs.declared.accumulator.Accumulator.{Accumulator}
 use Rattle.rollup.specs.declared.writing.Written.{Written}
-use Rattle.rollup.specs.Accumulator.{Mem, keptOf, waitingOf, limit, fits}
+use Rattle.rollup.specs.Accumulator.{Mem, keptOf, waitingOf, limit, fits, isStarted}
 use Rattle.rollup.specs.Header.{stateType, stateVersion}
-use Rattle.rollup.specs.Adding.{isStarted, Shows, Free}
-use Rattle.rollup.specs.Taking.{unchanged}
+use Rattle.rollup.specs.Taking.{unchanged, Shows, Free}
 
 -- ---- what is written
 

@@ -3,8 +3,7 @@
 // two flags and an `Option`; and a contract on every function.
 ghost use mathlib.Core.Path.{_≡_};
 ghost use mathlib.Core.Bool.{not};
-ghost use Rattle.rollup.specs.Accumulator.{fresh, countOf, precisionsOf};
-ghost use Rattle.rollup.specs.Adding.{isStarted};
+ghost use Rattle.rollup.specs.Accumulator.{fresh, countOf, precisionsOf, isStarted};
 
 // How many values wait at most.
 pub(crate) const MAX_PENDING: usize = 2048;

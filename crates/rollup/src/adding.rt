@@ -30,8 +30,8 @@ pub struct Added {
     pub head: Accumulator,
 }
 
-// The same of a head that fits, and what is known of the list that is kept: `distinct` says that it is one that a merge can leave. Such a list an insertion need not
-// walk first. New: the Rust inserts without looking (document 01, "Difference").
+// The same of a head that fits, and what is known of the list that is kept: `distinct` says that it is one that a merge can leave. An insertion need not walk such a
+// list first. New: the Rust inserts without looking (document 01, "Difference").
 pub struct AddedFitting {
     pub answer: u8,
     pub head: Accumulator,
@@ -86,7 +86,7 @@ fn distinct_after(before: Form, path: Path, known: bool) -> bool
     }
 }
 
-// A state that is accepted goes its path. The first k cells of `scratch` hold the values of its list.
+// A state that is accepted takes its path. The first k cells of `scratch` hold the values of its list.
 fn accept(
     a: Accumulator,
     distinct: bool,

@@ -1,4 +1,4 @@
-// Which path values take that come to a roll-up. Ported from the tests in `merge_sparse` in src/accumulator.rs of zetasketch-rs at commit 9abe68bf87 (Apache-2.0,
+// Which path the values that come to a roll-up take. Ported from the tests in `merge_sparse` in src/accumulator.rs of zetasketch-rs at commit 9abe68bf87 (Apache-2.0,
 // see NOTICE). Changed: the tests stand by themselves, in front of the first store, with an enum for the answer.
 ghost use mathlib.Core.Path.{_≡_};
 ghost use Rattle.rollup.specs.Taking.{waits, inserts, listPath, pathOf};

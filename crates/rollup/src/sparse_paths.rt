@@ -11,8 +11,7 @@ ghost use Rattle.lists.specs.Lists.{written, MergePost};
 ghost use Rattle.lists.specs.Registers.{withRegisters, zeros, raisedBy, larger, SetListPre};
 ghost use Rattle.rollup.specs.declared.accumulator.Form.the-variants.{Sparse as ListForm};
 ghost use Rattle.rollup.specs.Accumulator.{mem};
-ghost use Rattle.rollup.specs.Taking.{counted, withList, densed, settle, allMerged, sparseAfter};
-ghost use Rattle.rollup.specs.Adding.{Shows};
+ghost use Rattle.rollup.specs.Taking.{counted, withList, densed, settle, allMerged, sparseAfter, Shows};
 ghost use Rattle.rollup.specs.Stages.{SettlePre, Leaves, BackPre, JoinPre, MergeInPre, InsertInPre, SetListsPre, DensifyPre, TakingPre};
 use crate::accumulator::Accumulator;
 use crate::accumulator::Form;
@@ -39,8 +38,8 @@ fn counted(a: Accumulator, x: Incoming) -> Accumulator
 }
 
 // The head of a list, and of registers.
-fn with_list(h: Accumulator, size: u32, len: usize, bytes: usize, waits: usize) -> Accumulator
-    ensures { λ r. ⌜ r ≡ withList h size len bytes waits ⌝ }
+fn with_list(h: Accumulator, size: u32, len: usize, bytes: usize, waiting: usize) -> Accumulator
+    ensures { λ r. ⌜ r ≡ withList h size len bytes waiting ⌝ }
 {
     let form = Form::Sparse;
     Accumulator {
@@ -53,7 +52,7 @@ fn with_list(h: Accumulator, size: u32, len: usize, bytes: usize, waits: usize) 
         sparse_size: size,
         sparse_len: len,
         sparse_bytes: bytes,
-        pending_len: waits,
+        pending_len: waiting,
     }
 }
 

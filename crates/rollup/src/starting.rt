@@ -9,7 +9,7 @@ use crate::incoming::Incoming;
 use lists::registers;
 use lists::sorting;
 
-// The head that a first list sets, or nothing at all.
+// The head that a first list sets, or a first state without list or data.
 fn first_list(x: Incoming, len: usize) -> Accumulator
     ensures { λ r. ⌜ r ≡ listHead (x .mask) (x .«value_type») (x .«num_values») (x .precision) (x .«sparse_precision») (x .«sparse_size») len (x .«list_bytes») 0 ⌝ }
 {
@@ -28,7 +28,7 @@ fn first_list(x: Incoming, len: usize) -> Accumulator
     }
 }
 
-// And first registers.
+// The head that first registers set.
 fn first_dense(x: Incoming) -> Accumulator
     ensures { λ r. ⌜ r ≡ denseHead (x .mask) (x .«value_type») (x .«num_values») (x .precision) (x .«sparse_precision») (x .«sparse_size») 0 ⌝ }
 {

@@ -1,8 +1,7 @@
 // Taking in, by the roll-up's form.
 ghost use lib.ListN.{take as first};
 ghost use Rattle.rollup.specs.Accumulator.{mem};
-ghost use Rattle.rollup.specs.Taking.{takenAfter};
-ghost use Rattle.rollup.specs.Adding.{Shows};
+ghost use Rattle.rollup.specs.Taking.{takenAfter, Shows};
 ghost use Rattle.rollup.specs.Stages.{TakingPre};
 use crate::accumulator::Accumulator;
 use crate::accumulator::Form;
@@ -12,7 +11,7 @@ use crate::paths::Path;
 use crate::sparse_paths;
 use crate::starting;
 
-// What comes in goes its path. The first k cells of `scratch` hold its values, `row` its registers.
+// What comes in takes its path. The first k cells of `scratch` hold its values, `row` its registers.
 pub(crate) fn take(
     a: Accumulator,
     x: Incoming,
