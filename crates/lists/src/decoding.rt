@@ -37,8 +37,8 @@ fn wide(b: u8) -> u32
     b as u32
 }
 
-// The gap at `at`. The five bytes are read one after the other, without a loop: with numbers in the place of shifts, each case is one sum,
-// which is faster.
+// The gap at `at`. The five bytes are read one after the other, without a loop. A byte that another follows has 128 too much, which makes just the weight of
+// the next: it is taken off where that one is added. Only the sum and one byte are in hand at a time, so that the loop around it keeps its numbers in registers.
 fn read_gap(s: &[u8], at: usize) -> Gap
     ensures { λ r. ⌜ GapPost (now (s .entry)) at r ⌝ }
 {
@@ -55,27 +55,27 @@ fn read_gap(s: &[u8], at: usize) -> Gap
     }
     let b = wide(s[at1]);
     let at2 = at1 + 1;
+    let two = a - 128 + b * 128;
     if b < 128 {
-        return Gap::Value(a - 128 + b * 128, at2);
+        return Gap::Value(two, at2);
     }
     if s.len() <= at2 {
         return Gap::Cut;
     }
     let c = wide(s[at2]);
     let at3 = at2 + 1;
+    let three = two - 16384 + c * 16384;
     if c < 128 {
-        return Gap::Value(a - 128 + (b - 128) * 128 + c * 16384, at3);
+        return Gap::Value(three, at3);
     }
     if s.len() <= at3 {
         return Gap::Cut;
     }
     let d = wide(s[at3]);
     let at4 = at3 + 1;
+    let four = three - 2097152 + d * 2097152;
     if d < 128 {
-        return Gap::Value(
-            a - 128 + (b - 128) * 128 + (c - 128) * 16384 + d * 2097152,
-            at4,
-        );
+        return Gap::Value(four, at4);
     }
     if s.len() <= at4 {
         return Gap::Cut;
@@ -83,10 +83,7 @@ fn read_gap(s: &[u8], at: usize) -> Gap
     let e = wide(s[at4]);
     let at5 = at4 + 1;
     if e < 16 {
-        return Gap::Value(
-            a - 128 + (b - 128) * 128 + (c - 128) * 16384 + (d - 128) * 2097152 + e * 268435456,
-            at5,
-        );
+        return Gap::Value(four - 268435456 + e * 268435456, at5);
     }
     Gap::Long
 }

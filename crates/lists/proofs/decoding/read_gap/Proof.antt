@@ -9,18 +9,18 @@ use Rattle.lists.proofs.DecodingLaws.{gap-cut, gap-last, gap-long}
 use Rattle.lists.proofs.decoding.read_gap.Statement.{statement}
 use Rattle.lists.proofs.decoding.read_gap.Tie as tie
 
--- The value of the bytes before, each of 128 or more.
+-- The value of the bytes before, each of 128 or more, as the code has it.
 abbrev value1 : tie.Else2 → ℕ
 value1 c = c .before .wide .result - 128
 
 abbrev value2 : tie.Else4 → ℕ
-value2 c = value1 (c .before .before .before .before) + (c .before .wide2 .result - 128) * 128
+value2 c = value1 (c .before .before .before .before) + c .before .wide2 .result * 128 - 16384
 
 abbrev value3 : tie.Else6 → ℕ
-value3 c = value2 (c .before .before .before .before) + (c .before .wide3 .result - 128) * 16384
+value3 c = value2 (c .before .before .before .before) + c .before .wide3 .result * 16384 - 2097152
 
 abbrev value4 : tie.Else8 → ℕ
-value4 c = value3 (c .before .before .before .before) + (c .before .wide4 .result - 128) * 2097152
+value4 c = value3 (c .before .before .before .before) + c .before .wide4 .result * 2097152 - 268435456
 
 -- After each of them: what the gap is, by the bytes that follow.
 past1 : (c : tie.Else2) → let o = c .before .before .before .before .before .args in
@@ -66,11 +66,11 @@ wide-requires-2 c κs = search needs
 add-at2 : tie.Need-add-at2
 add-at2 c = search needs
 
-mul-t19 : tie.Need-mul-t19
-mul-t19 c = search needs
+mul-two : tie.Need-mul-two
+mul-two c = search needs
 
-add-t20 : tie.Need-add-t20
-add-t20 c = search needs
+add-two : tie.Need-add-two
+add-two c = search needs
 
 returns-4 : tie.Need-returns-4
 returns-4 c =
@@ -89,17 +89,14 @@ wide-requires-3 c κs = search needs
 add-at3 : tie.Need-add-at3
 add-at3 c = search needs
 
-mul-t24 : tie.Need-mul-t24
-mul-t24 c = search needs
+sub-three : tie.Need-sub-three
+sub-three c = search needs
 
-add-t25 : tie.Need-add-t25
-add-t25 c = search needs
+mul-three : tie.Need-mul-three
+mul-three c = search needs
 
-mul-t26 : tie.Need-mul-t26
-mul-t26 c = search needs
-
-add-t27 : tie.Need-add-t27
-add-t27 c = search needs
+add-three : tie.Need-add-three
+add-three c = search needs
 
 returns-6 : tie.Need-returns-6
 returns-6 c =
@@ -118,23 +115,14 @@ wide-requires-4 c κs = search needs
 add-at4 : tie.Need-add-at4
 add-at4 c = search needs
 
-mul-t31 : tie.Need-mul-t31
-mul-t31 c = search needs
+sub-four : tie.Need-sub-four
+sub-four c = search needs
 
-add-t32 : tie.Need-add-t32
-add-t32 c = search needs
+mul-four : tie.Need-mul-four
+mul-four c = search needs
 
-mul-t34 : tie.Need-mul-t34
-mul-t34 c = search needs
-
-add-t35 : tie.Need-add-t35
-add-t35 c = search needs
-
-mul-t36 : tie.Need-mul-t36
-mul-t36 c = search needs
-
-add-t37 : tie.Need-add-t37
-add-t37 c = search needs
+add-four : tie.Need-add-four
+add-four c = search needs
 
 returns-8 : tie.Need-returns-8
 returns-8 c =
@@ -153,29 +141,14 @@ wide-requires-5 c κs = search needs
 add-at5 : tie.Need-add-at5
 add-at5 c = search needs
 
-mul-t41 : tie.Need-mul-t41
-mul-t41 c = search needs
+sub-t26 : tie.Need-sub-t26
+sub-t26 c = search needs
 
-add-t42 : tie.Need-add-t42
-add-t42 c = search needs
+mul-t27 : tie.Need-mul-t27
+mul-t27 c = search needs
 
-mul-t44 : tie.Need-mul-t44
-mul-t44 c = search needs
-
-add-t45 : tie.Need-add-t45
-add-t45 c = search needs
-
-mul-t47 : tie.Need-mul-t47
-mul-t47 c = search needs
-
-add-t48 : tie.Need-add-t48
-add-t48 c = search needs
-
-mul-t49 : tie.Need-mul-t49
-mul-t49 c = search needs
-
-add-t50 : tie.Need-add-t50
-add-t50 c = search needs
+add-t28 : tie.Need-add-t28
+add-t28 c = search needs
 
 returns-10 : tie.Need-returns-10
 returns-10 c =
@@ -198,40 +171,31 @@ read-gap-spec =
     shared-slice-read-wide-2
     wide-requires-2
     add-at2
-    mul-t19
-    add-t20
+    mul-two
+    add-two
     returns-4
     returns-5
     shared-slice-read-wide-3
     wide-requires-3
     add-at3
-    mul-t24
-    add-t25
-    mul-t26
-    add-t27
+    sub-three
+    mul-three
+    add-three
     returns-6
     returns-7
     shared-slice-read-wide-4
     wide-requires-4
     add-at4
-    mul-t31
-    add-t32
-    mul-t34
-    add-t35
-    mul-t36
-    add-t37
+    sub-four
+    mul-four
+    add-four
     returns-8
     returns-9
     shared-slice-read-wide-5
     wide-requires-5
     add-at5
-    mul-t41
-    add-t42
-    mul-t44
-    add-t45
-    mul-t47
-    add-t48
-    mul-t49
-    add-t50
+    sub-t26
+    mul-t27
+    add-t28
     returns-10
     returns-11)
