@@ -19,9 +19,9 @@ formNumber Dense = 2
 abbrev pub formOf : ℕ → Form
 formOf n = cond (eqb n 0) Unstarted (cond (eqb n 1) Sparse Dense)
 
--- Document 01's head in its order: "form; type mask, value type, value count, p, s, sparse size, kept count, kept bytes, waiting count".
-abbrev pub numbersOf : Accumulator → List ℕ
-numbersOf a =
+-- Document 01's head in its order: form, type mask, value type, value count, p, s, sparse size, kept count, kept bytes, waiting count.
+abbrev pub rowOf : Accumulator → List ℕ
+rowOf a =
     formNumber (a .form)
     ∷ a .allowed
     ∷ a .«value_type»
@@ -63,7 +63,7 @@ headIn l =
 
 -- The row with another head in front; numbers behind it stay.
 unfoldable pub withHead : Accumulator → List ℕ → List ℕ
-withHead a l = numbersOf a ++ drop 10 l
+withHead a l = rowOf a ++ drop 10 l
 
 -- What `read_head` answers.
 abbrev pub readHead : List ℕ → Head

@@ -1,4 +1,4 @@
-// Many states, added one after the other: question 1 is asked once, and then each state goes to the form of `add` that need not scan. One state is a fold of one: with a
+// Many states, added one after the other: question 1 is asked once, and then each state goes to `add_fitting`, which does not ask it again. One state is a fold of one: with a
 // single call of `add_fitting` in the library LLVM puts its code into the loop, and the head stays where it is from turn to turn.
 ghost use mathlib.Core.Path.{_≡_};
 ghost use mathlib.Core.Bool.{true, _&&_};

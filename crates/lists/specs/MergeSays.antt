@@ -60,7 +60,7 @@ pub record MergeSays (p s : ℕ) (a b l : List ℕ) (bytes : ℕ) : Type 0 where
   -- "A plain value and a marked one of one index both stay."
   pub both : (i v w : ℕ) → InEither a b v → PlainAt p s i v → InEither a b w → MarkedAt p s i w → List·Memᴰ v l × LargestKept p s a b l i
 
--- `MergePost` is what `merge_dedupe_into` promises: the first cells of `out` hold the merge, and it answers how many they are and the byte count.
+-- `MergePost` is what `merge_dedupe_into` promises of the merge: the first cells of `out` hold the merge, and it answers how many they are and the byte count.
 unfoldable pub MergeSentence : Type 0
 MergeSentence =
     (p s : ℕ) (a b : List ℕ) (r : Merged) (out : List ℕ) → SuchList p s a → SuchList p s b → MergePost p s a b r out

@@ -12,7 +12,7 @@ use Rattle.lists.specs.Lists.{allValid}
 
 -- ---- how registers lie in memory: these three alone know
 
--- How many bytes 2^p registers take: "a byte a register".
+-- How many bytes 2^p registers take: a byte each.
 unfoldable pub registerBytes : ℕ → ℕ
 registerBytes p = 2 ^ p
 

@@ -25,7 +25,7 @@ use Rattle.batch.specs.declared.closing.Count.the-variants.{Registers}
 use Rattle.batch.proofs.NoBatchLaws.{NoBatch}
 use Rattle.reporting.specs.Numbers.{signedText, numberText}
 use Rattle.batch.specs.declared.closing.Report.{Report}
-use Rattle.reporting.specs.Text.{answerLine, answerLines, endingText, notZeroOf, numbersLine, numbersOf, stateText, reportText}
+use Rattle.reporting.specs.Text.{answerLine, answerLines, endingText, notZeroOf, numbersLine, numbersText, stateText, reportText}
 use Rattle.reporting.specs.Report.{tooLong}
 use Rattle.reporting.proofs.NumberLaws.{signed-one, signed-length, number-length, number-short}
 
@@ -131,11 +131,11 @@ ending-length Full records = omega arith
 -- ---- the four numbers
 
 pub numbers-are : (a : Accumulator) (c : Count)
-    → Four (numbersOf a c) (numberText (a .precision) 32) (numberText (widenedOf (a .«sparse_precision»)) 32) (numberText (a .«num_values») 32) (numberText (notZeroOf c) 10)
+    → Four (numbersText a c) (numberText (a .precision) 32) (numberText (widenedOf (a .«sparse_precision»)) 32) (numberText (a .«num_values») 32) (numberText (notZeroOf c) 10)
 unfolding numbersLine
 numbers-are a c = four _ _ _ _ refl
 
-pub numbers-length : (a : Accumulator) (c : Count) → length (numbersOf a c) ≤ 88
+pub numbers-length : (a : Accumulator) (c : Count) → length (numbersText a c) ≤ 88
 numbers-length a c =
     let f = numbers-are a c in
     omega (arith, two-length (f .first), two-length (f .second), two-length (f .third), number-length (a .precision) 32, number-length (widenedOf (a .«sparse_precision»)) 32, number-length (a .«num_values») 32, number-length (notZeroOf c) 10)
@@ -173,12 +173,12 @@ hex-put out y bytes at k m room few p = line-put out y (hexText bytes) at 10 k m
 -- ---- all of it
 
 pub report-are : (r : Report) (answers out : List ℕ)
-    → Four (reportText r answers out) (answerLines 1 (take (r .rolled .records) answers)) (endingText (r .rolled .ending) (r .rolled .records)) (numbersOf (r .rolled .head) (r .«not_zero»)) (stateText (r .written .answer) (take (r .written .len) out))
+    → Four (reportText r answers out) (answerLines 1 (take (r .rolled .records) answers)) (endingText (r .rolled .ending) (r .rolled .records)) (numbersText (r .rolled .head) (r .«not_zero»)) (stateText (r .written .answer) (take (r .written .len) out))
 unfolding reportText
 report-are r answers out =
     four _ _ _ _
     (ap (λ (l : List ℕ). answerLines 1 (take (r .rolled .records) answers) ++ l)
-    (append-assoc (endingText (r .rolled .ending) (r .rolled .records)) (numbersOf (r .rolled .head) (r .«not_zero»)) (stateText (r .written .answer) (take (r .written .len) out))))
+    (append-assoc (endingText (r .rolled .ending) (r .rolled .records)) (numbersText (r .rolled .head) (r .«not_zero»)) (stateText (r .written .answer) (take (r .written .len) out))))
 
 -- Of bytes that are no batch: "0 24", and of a fresh head four zeros and 21.
 pub text-24 : {r : Report} (answers output : List ℕ) → NoBatch r → reportText r answers output ≡ tooLong
@@ -191,4 +191,4 @@ text-24 {r} answers output h =
     ∙ ap (all 0 (Refused 24) fresh (Registers 0)) (h .written)
   where
     all : ℕ → Ending → Accumulator → Count → ℕ → List ℕ
-    all n e a c answer = answerLines 1 (take n answers) ++ ((endingText e n ++ numbersOf a c) ++ stateText answer (take (r .written .len) output))
+    all n e a c answer = answerLines 1 (take n answers) ++ ((endingText e n ++ numbersText a c) ++ stateText answer (take (r .written .len) output))

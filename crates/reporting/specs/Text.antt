@@ -39,8 +39,8 @@ unfoldable pub numbersLine : ℕ → ℕ → ℕ → ℕ → List ℕ
 numbersLine p s count notZero = numberText p 32 ++ (numberText (widenedOf s) 32 ++ (numberText count 32 ++ numberText notZero 10))
 
 -- The same of a head, which has the first three.
-abbrev pub numbersOf : Accumulator → Count → List ℕ
-numbersOf a notZero = numbersLine (a .precision) (a .«sparse_precision») (a .«num_values») (notZeroOf notZero)
+abbrev pub numbersText : Accumulator → Count → List ℕ
+numbersText a notZero = numbersLine (a .precision) (a .«sparse_precision») (a .«num_values») (notZeroOf notZero)
 
 -- "Then the written state, or the writing refusal's number." The answer 0 is no refusal.
 unfoldable pub stateText : ℕ → List ℕ → List ℕ
@@ -48,7 +48,7 @@ stateText answer state = cond (eqb answer 0) (hexText state ++ 10 ∷ []) (numbe
 
 -- Between the lines of the records and the state: how the chain ended, and the four numbers.
 abbrev pub closingText : Report → List ℕ
-closingText r = endingText (r .rolled .ending) (r .rolled .records) ++ numbersOf (r .rolled .head) (r .«not_zero»)
+closingText r = endingText (r .rolled .ending) (r .rolled .records) ++ numbersText (r .rolled .head) (r .«not_zero»)
 
 -- All of it, in order. The answers are those of as many cells as there were records, the state as many bytes of the output as were written.
 unfoldable pub reportText : Report → List ℕ → List ℕ → List ℕ

@@ -5,7 +5,7 @@ ghost use lib.ListN.{length, take};
 ghost use Rattle.io.specs.Counts.{Counts};
 ghost use Rattle.wire.specs.Varints.{PutPost};
 ghost use Rattle.reporting.specs.Numbers.{numberText};
-ghost use Rattle.reporting.specs.Text.{answerLine, answerLines, endingText, notZeroOf, numbersOf, stateText, reportText};
+ghost use Rattle.reporting.specs.Text.{answerLine, answerLines, endingText, notZeroOf, numbersText, stateText, reportText};
 ghost use Rattle.reporting.specs.Report.{ReportIn};
 use batch::closing::Count;
 use batch::closing::Report;
@@ -79,7 +79,7 @@ fn counted(count: Count) -> u64
 // p, s, value count, registers not zero.
 fn put_numbers(text: &mut [u8], at: usize, a: Accumulator, not_zero: Count) -> usize
     requires { ⌜ at + 88 ≤ length (now text) ⌝ }
-    ensures { λ r. ⌜ PutPost (now (text .entry)) at (numbersOf a «not_zero») r (now (text .exit)) ⌝ }
+    ensures { λ r. ⌜ PutPost (now (text .entry)) at (numbersText a «not_zero») r (now (text .exit)) ⌝ }
 {
     let registers = counted(not_zero);
     let second = put_number(text, at, a.precision as u64, b' ');

@@ -1,4 +1,4 @@
--- What is known of the list that is kept is so after each call: a merge leaves one that a merge can leave, and nothing else changes it but the first that is taken in
+-- What is known of the list that is kept is so after something was taken in: a merge leaves one that a merge can leave, and nothing else changes it but the first that is taken in
 -- and a row of registers.
 use Prim.Native.Nat.{ℕ}
 use mathlib.Core.Path.{_≡_, sym, subst}

@@ -441,8 +441,8 @@ judged-no a s n post = sym (post .answer)
 -- ---- what is known of a state that was judged and accepted
 
 pub record JudgedFacts (a : Accumulator) (st : State) : Type 0 where
-  pub kind : st .aggregatorType ≡ 112
-  pub version : st .encodingVersion ≡ 2
+  pub kind : st .aggregatorType ≡ stateType
+  pub version : st .encodingVersion ≡ stateVersion
   pub value : isValueType (st .valueType) ≡ true
   pub low : 4 ≤ st .hll .precision
   pub high : st .hll .precision ≤ 24

@@ -407,8 +407,6 @@ module _ {h : Accumulator} {registers sparse vs : List ℕ} (pre : InsertInPre h
         Shows (settle h registers l (bytesOf l)) r (mem left after pending)) (sym (ap (λ (w : ℕ). take w pending) (pre .none)))
         (one-shows (pre .ready) inserted-few inserted-one registers pending x)
 
--- ---- counts
-
 -- ---- what comes to a list roll-up
 
 module _ {a : Accumulator} {m : Mem} {scratch : List ℕ} {x : Incoming} {path : Path} {row : List ℕ} {k : ℕ} (f : a .form ≡ Sparse)

@@ -62,11 +62,11 @@ rangesFit p s = normalRange p && sparseRange p s
 abbrev pub noLists : Accumulator → Bool
 noLists a = eqb (a .«sparse_len») 0 && eqb (a .«pending_len») 0
 
--- "With values waiting, kept bytes + 5 × waiting < L."
 -- Kept bytes, and five for each value that waits.
 abbrev pub waitingBound : Accumulator → ℕ
 waitingBound a = a .«sparse_bytes» + 5 * a .«pending_len»
 
+-- "With values waiting, kept bytes + 5 × waiting < L."
 abbrev pub waitingFits : Accumulator → Bool
 waitingFits a = eqb (a .«pending_len») 0 || ltb (waitingBound a) (limit (a .precision))
 
@@ -113,8 +113,8 @@ fits a m = fitsForm (a .form) a m
 -- ---- what a head tells
 
 -- A head of its ten numbers.
-abbrev pub headOf : Form → (mask valueType count p s size len bytes waiting : ℕ) → Accumulator
-headOf form mask valueType count p s size len bytes waiting =
+abbrev pub headWith : Form → (mask valueType count p s size len bytes waiting : ℕ) → Accumulator
+headWith form mask valueType count p s size len bytes waiting =
     record {
       form = form;
       allowed = mask;
@@ -130,7 +130,7 @@ headOf form mask valueType count p s size len bytes waiting =
 
 -- "A fresh head is unstarted with every number 0."
 abbrev pub fresh : Accumulator
-fresh = headOf Unstarted 0 0 0 0 0 0 0 0 0
+fresh = headWith Unstarted 0 0 0 0 0 0 0 0 0
 
 -- The bounds that those numbers of a head have by their types that are written as they are.
 pub record HeadWidths (a : Accumulator) : Type 0 where

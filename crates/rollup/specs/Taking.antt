@@ -15,7 +15,7 @@ use Rattle.rollup.specs.declared.accumulator.Accumulator.{Accumulator}
 use Rattle.rollup.specs.declared.incoming.Incoming.{Incoming}
 use Rattle.rollup.specs.declared.paths.Path.{Path}
 use Rattle.rollup.specs.declared.paths.Path.the-variants.{None, Waits, Sorts, Inserts, Merges}
-use Rattle.rollup.specs.Accumulator.{Mem, keptOf, waitingOf, limit, waitingBound, headOf}
+use Rattle.rollup.specs.Accumulator.{Mem, keptOf, waitingOf, limit, waitingBound, headWith}
 use Rattle.rollup.specs.Header.{isEmpty}
 
 -- What is to be left: the head, the register bytes, the values kept, and those waiting, in some order.
@@ -47,10 +47,10 @@ pub record Free (m n : Mem) : Type 0 where
 
 -- A head of list form, and a dense one.
 abbrev pub listHead : (mask valueType count p s size len bytes waiting : ℕ) → Accumulator
-listHead = headOf Sparse
+listHead = headWith Sparse
 
 abbrev pub denseHead : (mask valueType count p s size bytes : ℕ) → Accumulator
-denseHead mask valueType count p s size bytes = headOf Dense mask valueType count p s size 0 bytes 0
+denseHead mask valueType count p s size bytes = headWith Dense mask valueType count p s size 0 bytes 0
 
 -- "masks intersect; value counts add as signed 64-bit numbers that wrap."
 abbrev pub commonMask : Accumulator → ℕ → ℕ
@@ -61,7 +61,7 @@ sumCount a count = (a .«num_values» + count) % 2 ^ 64
 
 abbrev pub counted : Accumulator → Incoming → Accumulator
 counted a x =
-    headOf (a .form) (commonMask a (x .mask)) (a .«value_type») (sumCount a (x .«num_values»)) (a .precision) (a .«sparse_precision») (a .«sparse_size»)
+    headWith (a .form) (commonMask a (x .mask)) (a .«value_type») (sumCount a (x .«num_values»)) (a .precision) (a .«sparse_precision») (a .«sparse_size»)
     (a .«sparse_len») (a .«sparse_bytes») (a .«pending_len»)
 
 -- The same head with another list, and with registers: "with sparse size, kept count and kept bytes 0".

@@ -1,4 +1,4 @@
-// What is taken in, beside its registers or its values: the numbers of a state, as module 6's paths use them.
+// What is taken in, beside its registers or its values: the numbers that module 6's paths use. Those of a state are one case (`state_numbers` in adding).
 
 pub struct Incoming {
     // The type mask.
