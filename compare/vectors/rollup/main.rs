@@ -472,6 +472,12 @@ fn room(made: &mut Made) {
     made.add(0, &Fields { sparse_data: Some(Vec::new()), ..neither(pair) });
     made.add(0, &dense(pair, &[1; 16]));
     made.add(17, &list(pair, &[3]));
+    made.all.remark("17 wants no cell for a state without list bytes, also where values are kept and there is no other cell");
+    made.lend(16, 1, 0, 0);
+    made.set_kept(&[1]);
+    made.head(Head { form: SPARSE, allowed: 15, num_values: 1, p: 4, s: 9, size: 1, kept: 1, bytes: 1, ..Head::default() });
+    made.add(0, &neither(pair));
+    made.add(17, &list(pair, &[3]));
     made.all.remark("17: registers of large precisions, and one byte short of 2^14");
     made.lend(16384, 9, 9, 9);
     made.add(17, &neither((24, 25)));
@@ -619,6 +625,12 @@ fn unfit(made: &mut Made) {
             made.add(18, &raw(pair, 1, &[0x80]));
         }
         made.add(want, &state);
+    }
+    made.all.remark("An unstarted head has no mask for 15 and no p for 17, whatever these numbers are");
+    for (allowed, p) in [(2, 0), (0, 20), (2, 3)] {
+        made.lend(16, 0, 0, 0);
+        made.head(Head { form: UNSTARTED, allowed, p, ..Head::default() });
+        made.add(0, &Fields { value_type: 8, ..neither((4, 9)) });
     }
     made.all.remark("1: a dense head: a count that is not 0, p, s, a register above 88-p, too few register bytes; and heads that just fit");
     let dense_head = Head { form: DENSE, allowed: 15, num_values: 5, p: 5, s: 10, size: 3, ..Head::default() };
@@ -835,6 +847,14 @@ fn paths(made: &mut Made) {
     made.add(14, &dense((4, 9), &registers(4, &[(0, 62)])));
     made.output("o", 64);
     assert_eq!(made.roll.head.bytes, 7);
+    made.all.remark("Also where it is lowered");
+    for state in [neither((4, 9)), list((4, 9), &[3]), dense((4, 9), &p4)] {
+        made.lend(32, 4, 4, 4);
+        made.set_registers(&p5);
+        made.head(Head { form: DENSE, allowed: 15, num_values: 5, p: 5, s: 10, size: 3, bytes: 7, ..Head::default() });
+        made.add(0, &state);
+        assert_eq!((made.roll.head.p, made.roll.head.bytes), (4, 7));
+    }
     made.after(4, &[&list((4, 9), &[1, 2, 3]), &dense((4, 9), &p4), &neither((4, 9))]);
     assert_eq!(made.roll.head.bytes, 0);
 }
@@ -868,6 +888,13 @@ fn edges(made: &mut Made) {
         made.add(0, &list(pair, &[600]));
         assert_eq!(made.roll.head.bytes, if kept == 16 { 22 } else { bytes + 1 });
     }
+    made.all.remark("With values waiting one value is merged with all, not inserted, though 16 are kept: the surplus of kept bytes goes");
+    made.lend(64, 64, 64, 64);
+    made.set_kept(&(1..=16).collect::<Vec<u32>>());
+    made.set_waiting(&(40..=45).collect::<Vec<u32>>());
+    made.head(Head { form: SPARSE, allowed: 15, num_values: 22, p: 6, s: 10, size: 16, kept: 16, bytes: 17, waiting: 6, ..Head::default() });
+    made.add(0, &list((6, 10), &[46]));
+    assert_eq!((made.roll.head.kept, made.roll.head.bytes, made.roll.head.waiting), (23, 23, 0));
     made.all.remark("The same with k = 2 and 32, 31 kept; k = 16 and 256, 255 kept; k = 17 and 272, 300 kept");
     for (p, n, k, long, inserts) in [(6, 32, 2, 8, true), (6, 31, 2, 8, false), (9, 256, 16, 60, true), (9, 255, 16, 60, false), (9, 272, 17, 40, false), (9, 300, 17, 20, false), (9, 300, 16, 20, true)] {
         made.lend((1 << p) + 1, 800, 800, 800);
