@@ -2,7 +2,7 @@
 use Prim.Native.Nat.{ℕ, suc, _+_, _-_, _<_, _≤_}
 use mathlib.Core.Path.{_≡_, refl, sym, ap, ap₂, _∙_, subst}
 use mathlib.Core.List.{List, [], _∷_, _++_, append-assoc, append-nil}
-use mathlib.Core.Bool.{Bool, true, false, cond, _&&_, true≢false}
+use mathlib.Core.Bool.{Bool, true, false, cond, _&&_, and-assoc, true≢false}
 use native.Mathlib.Omega.{arith}
 use lib.Dec.{leb}
 use lib.ListN.{length, getD, take, drop, set, length-set, length-append, drop-of-length-le}
@@ -20,24 +20,20 @@ use Rattle.rollup.proofs.ViewLaws.{add-keeps, steps-after}
 use Rattle.batch.specs.Batch.{addedAll}
 use Rattle.batch.proofs.ChainLaws.{added-last, added-after, same-cells}
 use Rattle.capi.specs.Heads.{isHead, headIn, withHead}
-use Rattle.capi.specs.Folds.{between, splits, endsFit, foldFits, FoldPre, FoldedPost, FoldPost, FoldGoesOn, foldAnswer, FoldRowPost}
+use Rattle.capi.specs.Folds.{between, splits, endsFit, foldFits, FoldedPre, FoldedPost, FoldPost, FoldGoesOn, foldAnswer, FoldRowPost}
 use Rattle.capi.proofs.CallLaws.{Found}
 
 -- ---- ends that fit
 
 -- What was found so far and whether the rest fits from the last end on make the whole.
 module _ (size start : ℕ) (all : Bool) where
-  and-assoc : (x y z : Bool) → x && (y && z) ≡ (x && y) && z
-  and-assoc true y z = refl
-  and-assoc false y z = refl
-
   pub ends-turn : (ends : List ℕ) (i : ℕ) → i < length ends
       → all && endsFit size start (drop i ends) ≡ (all && leb start (getD ends i 0)) && endsFit size (getD ends i 0) (drop (i + 1) ends)
   unfolding endsFit
   ends-turn ends i h =
       ap (λ (l : List ℕ). all && endsFit size start l)
       (drop-cons ends i 0 h ∙ ap (λ (k : ℕ). getD ends i 0 ∷ drop k ends) (let e : suc i ≡ i + 1 = omega arith in e))
-      ∙ and-assoc all (leb start (getD ends i 0)) (endsFit size (getD ends i 0) (drop (i + 1) ends))
+      ∙ sym (and-assoc all (leb start (getD ends i 0)) (endsFit size (getD ends i 0) (drop (i + 1) ends)))
 
   pub ends-end : (ends : List ℕ) (i : ℕ) → length ends ≤ i → all && endsFit size start (drop i ends) ≡ (all && leb start size)
   unfolding endsFit
@@ -104,7 +100,7 @@ pub record Folding (a : Accumulator) (m : Mem) (room : ℕ) (bytes ends before :
   pub steps : Steps a m (addedAll room done (take i answers) []) h n
   pub free : Free m n
 
-pub fold-start : (a : Accumulator) (m : Mem) (room : ℕ) (bytes ends before : List ℕ) → FoldPre a m bytes ends before
+pub fold-start : (a : Accumulator) (m : Mem) (room : ℕ) (bytes ends before : List ℕ) → FoldedPre a m bytes ends before
     → Folding a m room bytes ends before 0 0 a m before
 unfolding addedAll
 fold-start a m room bytes ends before pre =
@@ -216,7 +212,7 @@ module _ (a : Accumulator) (m : Mem) (room : ℕ) (bytes ends answers : List ℕ
         folded = λ (f : fits a m ≡ true). absurd (true≢false (sym f ∙ e));
       }
 
-  pub fold-pre : foldFits bytes ends answers ≡ true → fits a m ≡ true → FoldPre a m bytes ends answers
+  pub fold-pre : foldFits bytes ends answers ≡ true → fits a m ≡ true → FoldedPre a m bytes ends answers
   fold-pre good f =
       let parts = both-true (leb (length ends) (length answers)) (endsFit (length bytes) 0 ends) good in
       record { fit = f; cut = parts .1; room = leb-true (length ends) (length answers) (parts .0) }

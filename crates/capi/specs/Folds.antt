@@ -59,7 +59,7 @@ pub record FoldPost (a : Accumulator) (m : Mem) (room : ℕ) (bytes ends answers
   pub folded : fits a m ≡ true → FoldedPost a m room bytes ends answers (r .head) n left
 
 -- What the loop asks: a head that fits, ends that do, and a cell for each answer.
-pub record FoldPre (a : Accumulator) (m : Mem) (bytes ends answers : List ℕ) : Type 0 where
+pub record FoldedPre (a : Accumulator) (m : Mem) (bytes ends answers : List ℕ) : Type 0 where
   pub fit : fits a m ≡ true
   pub cut : endsFit (length bytes) 0 ends ≡ true
   pub room : length ends ≤ length answers

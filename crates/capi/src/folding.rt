@@ -6,7 +6,7 @@ ghost use lib.Dec.{leb};
 ghost use lib.ListN.{length};
 ghost use Rattle.rollup.specs.Accumulator.{mem};
 ghost use Rattle.rollup.specs.Adding.{AddPost};
-ghost use Rattle.capi.specs.Folds.{endsFit, foldFits, FoldPre, FoldedPost, FoldPost};
+ghost use Rattle.capi.specs.Folds.{endsFit, foldFits, FoldedPre, FoldedPost, FoldPost};
 use rollup::accumulator::Accumulator;
 use rollup::adding;
 use rollup::adding::Added;
@@ -56,7 +56,7 @@ fn fold_states(
     ends: &[u64],
     answers: &mut [u8],
 ) -> Accumulator
-    requires { ⌜ FoldPre a (mem (now registers) (now sparse) (now pending)) (now bytes) (now ends) (now answers) ⌝ }
+    requires { ⌜ FoldedPre a (mem (now registers) (now sparse) (now pending)) (now bytes) (now ends) (now answers) ⌝ }
     ensures { λ r. ⌜ FoldedPost a (mem (now (registers .entry)) (now (sparse .entry)) (now (pending .entry))) (length (now (scratch .entry))) (now (bytes .entry)) (now (ends .entry)) (now (answers .entry)) r (mem (now (registers .exit)) (now (sparse .exit)) (now (pending .exit))) (now (answers .exit)) ⌝ }
 {
     let mut head = a;

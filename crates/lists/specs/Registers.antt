@@ -88,9 +88,13 @@ largest (r ∷ regs) = max r (largest regs)
 unfoldable pub clearedFrom : ℕ → ℕ → List ℕ → List ℕ
 clearedFrom p from regs = take from regs ++ replicate (2 ^ p - from) 0
 
--- Registers of precision p lowered to q where they lie: those of the lower precision in front, "freed register bytes are zero".
+-- "Freed register bytes are zero": registers of precision q in front, where those of p were.
+abbrev pub withFreed : ℕ → ℕ → List ℕ → List ℕ
+withFreed p q regs = regs ++ replicate (2 ^ p - 2 ^ q) 0
+
+-- Registers of precision p lowered to q where they lie.
 abbrev pub loweredInPlace : ℕ → ℕ → List ℕ → List ℕ
-loweredInPlace p q regs = lowered (p - q) q regs ++ replicate (2 ^ p - 2 ^ q) 0
+loweredInPlace p q regs = withFreed p q (lowered (p - q) q regs)
 
 -- ---- what the functions of registers ask and promise
 

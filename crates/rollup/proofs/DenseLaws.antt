@@ -18,7 +18,7 @@ use Rattle.lists.proofs.RankLaws.{registers-same, lower-none, lowered-length}
 use Rattle.rollup.specs.declared.accumulator.Accumulator.{Accumulator}
 use Rattle.rollup.specs.declared.incoming.Incoming.{Incoming}
 use Rattle.rollup.specs.Accumulator.{mem}
-use Rattle.rollup.specs.Taking.{After, denseHead, commonMask, sumCount, signedMin, raisedTo, denseAfter, Shows}
+use Rattle.rollup.specs.Taking.{After, denseHead, counted, signedMin, raisedTo, denseAfter, Shows}
 use Rattle.rollup.specs.Stages.{LowerOwnPre, LowerOwnPost, RaiseByRowPre, RaiseByListPre, RaisePre, DensePre, DensePost}
 
 -- ---- the smaller as signed numbers
@@ -178,7 +178,7 @@ module _ (q : ℕ) (x : Incoming) (row vs registers : List ℕ) (pre : RaisePre 
       registers
 
   pub raise-list : length row ≡ 0 → RaiseByListPre q p (x .«sparse_precision») vs registers
-  raise-list h = record { low = pre .low; order = pre .order; pair = pre .pair h; all = pre .all; room = pre .room }
+  raise-list h = record { low = pre .low; order = pre .order; pair = pre .lowers .pair h; all = pre .lowers .all; room = pre .room }
 
   pub raised-list : (after : List ℕ) → length row ≡ 0
       → after ≡ withRegisters q (raisedLower p (x .«sparse_precision») (p - q) (registersOf q registers) vs) registers
@@ -186,7 +186,7 @@ module _ (q : ℕ) (x : Incoming) (row vs registers : List ℕ) (pre : RaisePre 
   raised-list after h = subst (Raised after) (sym (eq-eqb (length row) 0 h))
 
   pub raise-row : (length row ≡ 0 → ⊥) → RaiseByRowPre q p row registers
-  raise-row h = record { order = pre .order; high = pre .high; size = pre .size (pos-of-ne-zero h); small = pre .small; room = pre .room }
+  raise-row h = record { order = pre .order; high = pre .lowers .high; size = pre .lowers .size (pos-of-ne-zero h); small = pre .lowers .small; room = pre .room }
 
   pub raised-row : (after : List ℕ) → (length row ≡ 0 → ⊥)
       → after ≡ withRegisters q (larger (registersOf q registers) (lowered (p - q) q row)) registers
@@ -194,10 +194,6 @@ module _ (q : ℕ) (x : Incoming) (row vs registers : List ℕ) (pre : RaisePre 
   raised-row after h = subst (Raised after) (sym (ne-eqb (length row) 0 h))
 
 -- ---- a dense roll-up
-
--- A dense head with equal numbers.
-pub dense-head-is : {x v n m q s t z bytes : ℕ} → n ≡ m → s ≡ t → denseHead x v n q s z bytes ≡ denseHead x v m q t z bytes
-dense-head-is {x} {v} {n} {m} {q} {s} {t} {z} {bytes} e f = ap₂ (λ (a b : ℕ). denseHead x v a q b z bytes) e f
 
 -- What a dense head and its registers show, whatever the lists are that it leaves alone.
 pub dense-shown : (x : After) (r : Accumulator) (after : List ℕ) → r ≡ x .head → after ≡ x .registers → x .head .«sparse_len» ≡ 0 → x .head .«pending_len» ≡ 0
@@ -247,11 +243,7 @@ module _ (a : Accumulator) (registers : List ℕ) (x : Incoming) (row vs : List 
         (record {
           low = common-low;
           order = min-le-right (a .precision) (x .precision);
-          high = pre .high;
-          size = pre .size;
-          small = pre .small;
-          pair = pre .pair;
-          all = pre .all;
+          lowers = pre .lowers;
           room = after-room;
         })
 
@@ -265,18 +257,18 @@ module _ (a : Accumulator) (registers : List ℕ) (x : Incoming) (row vs : List 
         (of-front common (a .precision) own freed registers own-length)
         ∙ with-front common (a .precision) own freed registers own-length (raisedTo common x row vs own)
 
-    pub dense-post : (r : Accumulator) (last : List ℕ) → last ≡ withRegisters q (raisedTo q x row vs (registersOf q after)) after
-        → r ≡ denseHead (commonMask a (x .mask)) (a .«value_type») (sumCount a (x .«num_values»)) q (signedMin (a .«sparse_precision») (x .«sparse_precision»)) (a .«sparse_size»)
-        (a .«sparse_bytes»)
+    pub dense-post : (h r : Accumulator) (s : ℕ) (last : List ℕ) → last ≡ withRegisters q (raisedTo q x row vs (registersOf q after)) after
+        → h ≡ counted a x → s ≡ signedMin (a .«sparse_precision») (x .«sparse_precision»)
+        → r ≡ denseHead (h .allowed) (h .«value_type») (h .«num_values») q s (h .«sparse_size») (h .«sparse_bytes»)
         → DensePost a registers x row vs r last
     unfolding denseAfter
-    dense-post r last e f =
+    dense-post h r s last e e1 e2 f =
         record {
           shows = λ (sparse pending : List ℕ).
               dense-shown (denseAfter a (mem registers sparse pending) x row vs) r last
-              (f
-              ∙ ap
-              (λ (n : ℕ).
-              denseHead (commonMask a (x .mask)) (a .«value_type») (sumCount a (x .«num_values»)) n (signedMin (a .«sparse_precision») (x .«sparse_precision»))
-              (a .«sparse_size») (a .«sparse_bytes»)) (post .smaller)) (raised-all last e) refl refl refl refl sparse pending;
+              (f ∙ ap (λ (g : Accumulator). head g q s) e1 ∙ ap₂ (λ (n t : ℕ). head (counted a x) n t) (post .smaller) e2) (raised-all last e) refl refl refl refl sparse
+              pending;
         }
+      where
+        head : Accumulator → ℕ → ℕ → Accumulator
+        head g n t = denseHead (g .allowed) (g .«value_type») (g .«num_values») n t (g .«sparse_size») (g .«sparse_bytes»)

@@ -24,7 +24,7 @@ use Rattle.lists.specs.Registers.{registerBytes, registersOf, largest}
 use Rattle.rollup.specs.declared.accumulator.Form.{Form}
 use Rattle.rollup.specs.declared.accumulator.Form.the-variants.{Unstarted, Sparse, Dense}
 use Rattle.rollup.specs.declared.accumulator.Accumulator.{Accumulator}
-use Rattle.rollup.specs.Accumulator.{Mem, keptOf, waitingOf, limit, maxPending, normalRange, sparseRange, rangesFit, noLists, waitingFits, countsFit, listsFit, registersFit, sparseFits, denseFits, fitsForm, fits}
+use Rattle.rollup.specs.Accumulator.{Mem, keptOf, waitingOf, limit, maxPending, normalRange, sparseRange, rangesFit, noLists, waitingBound, waitingFits, countsFit, listsFit, registersFit, sparseFits, denseFits, fitsForm, fits}
 
 -- ---- Bools
 
@@ -115,21 +115,19 @@ pub wait-none : (a : Accumulator) → a .«pending_len» ≡ 0 → waitingFits a
 wait-none a e =
     ap (λ (t : Bool). t || ltb (a .«sparse_bytes» + 5 * a .«pending_len») (limit (a .precision))) (eq-eqb (a .«pending_len») 0 e)
 
-pub wait-some : (a : Accumulator) (n : ℕ) → (a .«pending_len» ≡ 0 → ⊥) → n ≡ limit (a .precision)
-    → ltb (a .«sparse_bytes» + 5 * a .«pending_len») n ≡ waitingFits a
-wait-some a n f e =
-    ap (ltb (a .«sparse_bytes» + 5 * a .«pending_len»)) e
-    ∙ sym (ap (λ (t : Bool). t || ltb (a .«sparse_bytes» + 5 * a .«pending_len») (limit (a .precision))) (ne-eqb (a .«pending_len») 0 f))
+pub wait-some : (a : Accumulator) (bound n : ℕ) → (a .«pending_len» ≡ 0 → ⊥) → bound ≡ waitingBound a → n ≡ limit (a .precision) → ltb bound n ≡ waitingFits a
+wait-some a bound n f b e =
+    ap₂ ltb b e ∙ sym (ap (λ (t : Bool). t || ltb (waitingBound a) (limit (a .precision))) (ne-eqb (a .«pending_len») 0 f))
 
 -- "With values waiting": the bound holds where the count is not 0.
-bounded : (a : Accumulator) → waitingFits a ≡ true → 0 < a .«pending_len» → a .«sparse_bytes» + 5 * a .«pending_len» < limit (a .precision)
-bounded a e h = ltb-true _ _ (wait-some a (limit (a .precision)) (λ (z : a .«pending_len» ≡ 0). let n : ⊥ = omega arith in n) refl ∙ e)
+bounded : (a : Accumulator) → waitingFits a ≡ true → 0 < a .«pending_len» → waitingBound a < limit (a .precision)
+bounded a e h = ltb-true _ _ (wait-some a _ _ (λ (z : a .«pending_len» ≡ 0). let n : ⊥ = omega arith in n) refl refl ∙ e)
 
-bounded-back : (a : Accumulator) → (0 < a .«pending_len» → a .«sparse_bytes» + 5 * a .«pending_len» < limit (a .precision)) → waitingFits a ≡ true
+bounded-back : (a : Accumulator) → (0 < a .«pending_len» → waitingBound a < limit (a .precision)) → waitingFits a ≡ true
 bounded-back a f =
     ⊎-elim
     (λ (h : 0 < a .«pending_len»).
-    sym (wait-some a (limit (a .precision)) (λ (z : a .«pending_len» ≡ 0). let n : ⊥ = omega arith in n) refl) ∙ lt-ltb _ _ (f h))
+    sym (wait-some a _ _ (λ (z : a .«pending_len» ≡ 0). let n : ⊥ = omega arith in n) refl refl) ∙ lt-ltb _ _ (f h))
     (λ (h : a .«pending_len» ≤ 0). wait-none a (let z : a .«pending_len» ≡ 0 = omega arith in z)) (side 0 (a .«pending_len»))
 
 pub record Counts (a : Accumulator) (cells waitingCells : ℕ) : Type 0 where

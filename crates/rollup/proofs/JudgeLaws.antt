@@ -32,7 +32,7 @@ use Rattle.rollup.specs.declared.accumulator.Accumulator.{Accumulator}
 use Rattle.rollup.specs.declared.judging.Judged.{Judged}
 use Rattle.rollup.specs.declared.judging.Judged.the-variants.{State as JudgedState, Refused}
 use Rattle.rollup.specs.Accumulator.{Mem, normalRange, sparseRange, isStarted}
-use Rattle.rollup.specs.Header.{ask, first, dataOf, listOf, isEmpty, isValueType, maskOf, stateType, stateVersion, kindAnswer, listHasPrecision, dataHasLength, needsPair, pairInRange, structureAnswer, topRank, registersInRange, headerAnswer, passing, readHeader}
+use Rattle.rollup.specs.Header.{ask, firstNo, dataOf, listOf, isEmpty, isValueType, maskOf, stateType, stateVersion, kindAnswer, listHasPrecision, dataHasLength, needsPair, pairInRange, structureAnswer, topRank, registersInRange, headerAnswer, passing, readHeader}
 use Rattle.rollup.specs.Adding.{masksMeet, hasField, hasBoth, samePair, carried, matchAnswer, judge, judgeAnswer, wantedPrecision, wantedRegisters, wantedCells, hasRoom, listedIn}
 use Rattle.rollup.specs.Taking.{commonMask}
 use Rattle.rollup.specs.Judging.{judgedMeans, JudgedInside, HeaderPost, JudgePost, parsedRefusal, RoomPre, ListedPre}
@@ -84,13 +84,13 @@ asked false n next e = absurd (let z : ⊥ = omega arith in z)
 
 -- Some that were answered with n, and others that follow.
 module _ (n k next : ℕ) (e : n ≡ k) where
-  first-stop : (n ≡ 0 → ⊥) → n ≡ first k next
+  first-stop : (n ≡ 0 → ⊥) → n ≡ firstNo k next
   first-stop h = e ∙ sym (stop k next (ne-eqb k 0 (λ (z : k ≡ 0). h (e ∙ z))))
 
-  first-go : n ≡ 0 → first k next ≡ next
+  first-go : n ≡ 0 → firstNo k next ≡ next
   first-go z = go k next (eq-eqb k 0 (sym e ∙ z))
 
-first-zero : (k next : ℕ) → first k next ≡ 0 → (k ≡ 0) × (next ≡ 0)
+first-zero : (k next : ℕ) → firstNo k next ≡ 0 → (k ≡ 0) × (next ≡ 0)
 first-zero k next e = pick (eqb k 0) refl e
   where
     pick : (b : Bool) → eqb k 0 ≡ b → ask b k next ≡ 0 → (k ≡ 0) × (next ≡ 0)
@@ -220,29 +220,21 @@ module _ (st : State) (n : ℕ) (e : n ≡ structureAnswer st) where
   unfolding headerAnswer
   structure-yes = first-go n (structureAnswer st) (ask (registersInRange st) 14 0) e
 
--- What 7 to 13 tell where all answers are yes, and 7 to 14.
+-- What 10 to 13 tell where all answers are yes, and 10 to 14.
 record StructureFacts (st : State) : Type 0 where
-  kind : st .aggregatorType ≡ stateType
-  version : st .encodingVersion ≡ stateVersion
-  value : isValueType (st .valueType) ≡ true
   listed : listHasPrecision st ≡ true
   normal : normalRange (st .hll .precision) ≡ true
   size : dataHasLength st ≡ true
   sparse : pairInRange st ≡ true
 
 structure-facts : (st : State) → structureAnswer st ≡ 0 → StructureFacts st
-unfolding structureAnswer kindAnswer
+unfolding structureAnswer
 structure-facts st e =
     let whole = first-zero (kindAnswer st) (from10 st) e in
-    let e7 = asked (eqb (st .aggregatorType) stateType) 6 _ (whole .0) in
-    let e8 = asked (eqb (st .encodingVersion) stateVersion) 7 _ (e7 .1) in
     let e10 = asked (listHasPrecision st) 9 _ (whole .1) in
     let e11 = asked (normalRange (st .hll .precision)) 10 _ (e10 .1) in
     let e12 = asked (dataHasLength st) 11 _ (e11 .1) in
     record {
-      kind = eqb-true _ _ (e7 .0);
-      version = eqb-true _ _ (e8 .0);
-      value = asked (isValueType (st .valueType)) 8 _ (e8 .1) .0;
       listed = e10 .0;
       normal = e11 .0;
       size = e12 .0;
@@ -441,20 +433,16 @@ judged-no a s n post = sym (post .answer)
 -- ---- what is known of a state that was judged and accepted
 
 pub record JudgedFacts (a : Accumulator) (st : State) : Type 0 where
-  pub kind : st .aggregatorType ≡ stateType
-  pub version : st .encodingVersion ≡ stateVersion
-  pub value : isValueType (st .valueType) ≡ true
   pub low : 4 ≤ st .hll .precision
   pub high : st .hll .precision ≤ 24
   pub sparse : 0 < st .hll .sparsePrecision
   -- Data, where there is any.
   pub size : 0 < length (dataOf st) → length (dataOf st) ≡ 2 ^ st .hll .precision
-  pub registers : largest (dataOf st) ≤ 65 - st .hll .precision
+  pub registers : largest (dataOf st) ≤ topRank (st .hll .precision)
   pub alone : 0 < length (dataOf st) → st .hll .sparseData ≡ none
   -- No data: a list, or neither.
   pub pair : length (dataOf st) ≡ 0 → Pair (st .hll .precision) (st .hll .sparsePrecision)
   -- The roll-up.
-  pub masks : isStarted (a .form) ≡ true → 0 < commonMask a (maskOf (st .valueType))
   pub same-normal : a .form ≡ Sparse → st .hll .precision ≡ a .precision
   pub same-sparse : a .form ≡ Sparse → st .hll .sparsePrecision ≡ a .«sparse_precision»
 
@@ -487,9 +475,6 @@ judged-facts a st e =
     let z = both-true (not (eqb s 0)) (not (hasBoth st)) (pairs .0) in
     let range = range-of p (y .0 .normal) in
     record {
-      kind = y .0 .kind;
-      version = y .0 .version;
-      value = y .0 .value;
       low = range .0;
       high = range .1;
       sparse = above-zero s (z .0);
@@ -498,8 +483,6 @@ judged-facts a st e =
       registers = leb-true _ _ (y .1);
       alone = data-alone (dataOf st) (st .hll .sparseData) (z .1);
       pair = λ (h : length (dataOf st) ≡ 0). ranges-pair p s (both (y .0 .normal) (pair-asked st (pair-needed st h (z .0)) ∙ y .0 .sparse));
-      masks = λ (h : isStarted (a .form) ≡ true).
-          above-zero (commonMask a (maskOf (st .valueType))) (or-second (not (isStarted (a .form))) (not (eqb (commonMask a (maskOf (st .valueType))) 0)) (x .0) (ap not h));
       same-normal = λ (h : a .form ≡ Sparse).
           sym (eqb-true _ _ (both-true (eqb (a .precision) p) (eqb (a .«sparse_precision») s) (same-pair (a .form) a st (pairs .1) h) .0));
       same-sparse = λ (h : a .form ≡ Sparse).

@@ -1,4 +1,4 @@
--- The laws of the roll-up; `Agreement`, `WrittenRuns` and `CutLaws` have the theorems.
+-- The laws of the roll-up; `Agreement`, `WrittenRuns` and `CutLaws` have the theorems, `CallExamples` calls that meet their premises.
 pub mod StartLaws
 pub mod DenseLaws
 pub mod AddLaws
@@ -21,4 +21,5 @@ pub mod CountLaws
 pub mod AgreementLaws
 pub mod FoldLaws
 pub mod Agreement
+pub mod CallExamples
 pub mod WrittenRuns

@@ -14,23 +14,20 @@ use Rattle.rollup.specs.declared.accumulator.Accumulator.{Accumulator}
 use Rattle.rollup.specs.declared.incoming.Incoming.{Incoming}
 use Rattle.rollup.specs.declared.paths.Path.{Path}
 use Rattle.rollup.specs.declared.paths.Path.the-variants.{None, Waits, Sorts, Inserts, Merges}
-use Rattle.rollup.specs.Accumulator.{limit}
+use Rattle.rollup.specs.Accumulator.{limit, waitingBound}
 use Rattle.rollup.specs.Taking.{waits, inserts, listPath, pathOf}
 
 -- ---- the waiting test
 
-module _ (a : Accumulator) (x : Incoming) (k top : ℕ) (t : top ≡ limit (a .precision)) where
-  abbrev bytes : ℕ
-  bytes = a .«sparse_bytes» + 5 * a .«pending_len» + x .growth
-
+module _ (a : Accumulator) (x : Incoming) (k bound top : ℕ) (b : bound ≡ waitingBound a) (t : top ≡ limit (a .precision)) where
   abbrev fewWait : Bool
   fewWait = leb (a .«pending_len» + k) (x .most)
 
-  pub wait-not : top ≤ bytes → false ≡ waits a x k
-  wait-not e = sym (ap (λ (b : Bool). b && fewWait) (le-ltb _ _ (let g : limit (a .precision) ≤ bytes = omega arith in g)))
+  pub wait-not : top ≤ bound + x .growth → false ≡ waits a x k
+  wait-not e = sym (ap (λ (y : Bool). y && fewWait) (le-ltb _ _ (let g : limit (a .precision) ≤ waitingBound a + x .growth = omega arith in g)))
 
-  pub wait-few : bytes < top → fewWait ≡ waits a x k
-  wait-few e = sym (ap (λ (b : Bool). b && fewWait) (lt-ltb _ _ (let g : bytes < limit (a .precision) = omega arith in g)))
+  pub wait-few : bound + x .growth < top → fewWait ≡ waits a x k
+  wait-few e = sym (ap (λ (y : Bool). y && fewWait) (lt-ltb _ _ (let g : waitingBound a + x .growth < limit (a .precision) = omega arith in g)))
 
 -- ---- the insertion test
 

@@ -98,11 +98,7 @@ module _ {a : Accumulator} {m : Mem} {room : ℕ} {x : Incoming} {row vs : List 
         own-low = d .low;
         own = record { high = d .high; room = d .room; small = omega (arith, d .small, d .high) };
         low = pre .low;
-        high = pre .high;
-        size = pre .size;
-        small = omega (arith, pre .small, pre .high);
-        pair = pre .pair;
-        all = pre .all;
+        lowers = record { high = pre .high; size = pre .size; small = omega (arith, pre .small, pre .high); pair = pre .pair; all = pre .all };
       }
 
 module _ (a : Accumulator) (registers sparse pending : List ℕ) (x : Incoming) (row vs : List ℕ) where

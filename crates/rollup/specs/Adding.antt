@@ -16,7 +16,7 @@ use Rattle.rollup.specs.declared.accumulator.Accumulator.{Accumulator}
 use Rattle.rollup.specs.declared.incoming.Incoming.{Incoming}
 use Rattle.rollup.specs.declared.adding.Added.{Added}
 use Rattle.rollup.specs.Accumulator.{Mem, maxPending, isStarted, fits}
-use Rattle.rollup.specs.Header.{ask, first, dataOf, listOf, isEmpty, maskOf, headerAnswer, passing, readHeader}
+use Rattle.rollup.specs.Header.{ask, firstNo, dataOf, listOf, isEmpty, maskOf, headerAnswer, passing, readHeader}
 use Rattle.rollup.specs.Taking.{After, unchanged, Shows, Free, commonMask, takenAfter}
 
 -- The answer, 0 for accepted, and what is left.
@@ -87,7 +87,7 @@ judge a bytes = andThen (readHeader bytes) (λ st nothing. passing (matchAnswer 
 
 -- Questions 7 to 16, of a state that was read.
 abbrev pub judgeAnswer : Accumulator → State → ℕ
-judgeAnswer a st = first (headerAnswer st) (matchAnswer a st)
+judgeAnswer a st = firstNo (headerAnswer st) (matchAnswer a st)
 
 -- "17: Has register memory 2^p bytes (the roll-up's p, the state's if unstarted), and, where the sparse field is not empty, each u32 list kept +
 -- waiting + that field's byte length?"

@@ -32,8 +32,8 @@ abbrev pub maskOf : ℕ → ℕ
 maskOf t = cond (eqb t 0) 15 (cond (eqb t 7) 2 (cond (eqb t 8) 1 12))
 
 -- The answer to some questions, and to those that follow: the first number that is not 0.
-abbrev pub first : ℕ → ℕ → ℕ
-first n next = ask (eqb n 0) n next
+abbrev pub firstNo : ℕ → ℕ → ℕ
+firstNo n next = ask (eqb n 0) n next
 
 -- The type and the version of a state.
 abbrev pub stateType : ℕ
@@ -64,7 +64,7 @@ pairInRange st = not (needsPair st) || sparseRange (st .hll .precision) (st .hll
 -- Questions 7 to 13. "11: p in 4..24?"
 unfoldable pub structureAnswer : State → ℕ
 structureAnswer st =
-    first (kindAnswer st)
+    firstNo (kindAnswer st)
     (ask (listHasPrecision st) 10 (ask (normalRange (st .hll .precision)) 11 (ask (dataHasLength st) 12 (ask (pairInRange st) 13 0))))
 
 -- "14: No register above 65−p?"
@@ -76,7 +76,7 @@ registersInRange st = leb (largest (dataOf st)) (topRank (st .hll .precision))
 
 -- Questions 7 to 14, of a state that was read.
 unfoldable pub headerAnswer : State → ℕ
-headerAnswer st = first (structureAnswer st) (ask (registersInRange st) 14 0)
+headerAnswer st = firstNo (structureAnswer st) (ask (registersInRange st) 14 0)
 
 -- A state that was read, where the answer is 0.
 abbrev pub passing : ℕ → State → Read State

@@ -172,26 +172,25 @@ pub record RaiseByListPre (q p s : ℕ) (vs registers : List ℕ) : Type 0 where
   pub all : allValid p s vs ≡ true
   pub room : registerBytes q ≤ length registers
 
--- Either, or neither.
-pub record RaisePre (q : ℕ) (x : Incoming) (row vs registers : List ℕ) : Type 0 where
-  pub low : 4 ≤ q
-  pub order : q ≤ x .precision
+-- Either, or neither, that can be lowered.
+pub record Lowers (x : Incoming) (row vs : List ℕ) : Type 0 where
   pub high : x .precision ≤ 24
   pub size : 0 < length row → length row ≡ 2 ^ x .precision
   pub small : largest row + x .precision < 256
   pub pair : length row ≡ 0 → Pair (x .precision) (x .«sparse_precision»)
   pub all : allValid (x .precision) (x .«sparse_precision») vs ≡ true
+
+pub record RaisePre (q : ℕ) (x : Incoming) (row vs registers : List ℕ) : Type 0 where
+  pub low : 4 ≤ q
+  pub order : q ≤ x .precision
+  pub lowers : Lowers x row vs
   pub room : registerBytes q ≤ length registers
 
 pub record DensePre (a : Accumulator) (registers : List ℕ) (x : Incoming) (row vs : List ℕ) : Type 0 where
   pub own-low : 4 ≤ a .precision
   pub own : LowerOwnPre (a .precision) registers
   pub low : 4 ≤ x .precision
-  pub high : x .precision ≤ 24
-  pub size : 0 < length row → length row ≡ 2 ^ x .precision
-  pub small : largest row + x .precision < 256
-  pub pair : length row ≡ 0 → Pair (x .precision) (x .«sparse_precision»)
-  pub all : allValid (x .precision) (x .«sparse_precision») vs ≡ true
+  pub lowers : Lowers x row vs
 
 pub record DensePost (a : Accumulator) (registers : List ℕ) (x : Incoming) (row vs : List ℕ) (r : Accumulator) (after : List ℕ) : Type 0 where
   pub shows : (sparse pending : List ℕ) → Shows (denseAfter a (mem registers sparse pending) x row vs) r (mem after sparse pending)

@@ -6,9 +6,9 @@ use mathlib.Core.Bool.{Bool, cond, _&&_, not}
 use Prim.Native.Nat.{ℕ, _+_, _-_, _*_, _%_, _^_, min}
 use lib.Dec.{ltb, leb, eqb}
 use lib.Bits.{bitAnd}
-use lib.ListN.{length, replicate}
+use lib.ListN.{length}
 use Rattle.lists.specs.Lists.{merged, written, distinctSlots}
-use Rattle.lists.specs.Registers.{registersOf, withRegisters, zeros, raisedBy, raisedLower, larger, lowered}
+use Rattle.lists.specs.Registers.{registersOf, withRegisters, zeros, raisedBy, raisedLower, larger, lowered, withFreed}
 use Rattle.rollup.specs.declared.accumulator.Form.{Form}
 use Rattle.rollup.specs.declared.accumulator.Form.the-variants.{Unstarted, Sparse, Dense}
 use Rattle.rollup.specs.declared.accumulator.Accumulator.{Accumulator}
@@ -138,7 +138,7 @@ pathOf Dense a kept x k = None
 abbrev pub allMerged : Accumulator → Mem → List ℕ → List ℕ
 allMerged h m vs = merged (h .precision) (h .«sparse_precision») (keptOf h m) (waitingOf h m ++ vs)
 
--- What each path leaves. "The list is the merge's, kept bytes change by the change in written length": so an insertion.
+-- They go to those that wait.
 abbrev pub asWaiting : Accumulator → Mem → List ℕ → After
 asWaiting h m vs =
     record {
@@ -148,6 +148,7 @@ asWaiting h m vs =
       waiting = waitingOf h m ++ vs;
     }
 
+-- What each path leaves. An insertion: "the list is the merge's, kept bytes change by the change in written length."
 unfoldable pub listAfter : Path → Accumulator → Mem → List ℕ → After
 listAfter None h m vs = unchanged h m
 listAfter Waits h m vs = asWaiting h m vs
@@ -192,14 +193,15 @@ raisedTo q x row vs regs =
 -- question 1 does not ask for, stay as they are.
 unfoldable pub denseAfter : Accumulator → Mem → Incoming → (row vs : List ℕ) → After
 denseAfter a m x row vs =
+    let h = counted a x in
     let p = a .precision in
     let q = min p (x .precision) in
     let own = lowered (p - q) q (registersOf p (m .registers)) in
     record {
       head =
-          denseHead (commonMask a (x .mask)) (a .«value_type») (sumCount a (x .«num_values»)) q (signedMin (a .«sparse_precision») (x .«sparse_precision»))
-          (a .«sparse_size») (a .«sparse_bytes»);
-      registers = withRegisters p (raisedTo q x row vs own ++ replicate (2 ^ p - 2 ^ q) 0) (m .registers);
+          denseHead (h .allowed) (h .«value_type») (h .«num_values») q (signedMin (a .«sparse_precision») (x .«sparse_precision»)) (h .«sparse_size»)
+          (h .«sparse_bytes»);
+      registers = withRegisters p (withFreed p q (raisedTo q x row vs own)) (m .registers);
       kept = [];
       waiting = [];
     }

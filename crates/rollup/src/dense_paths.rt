@@ -4,10 +4,11 @@
 ghost use mathlib.Core.Path.{_≡_};
 ghost use Prim.Native.Nat.{_-_};
 ghost use Rattle.lists.specs.Registers.{registersOf, withRegisters, larger, lowered, raisedLower};
-ghost use Rattle.rollup.specs.Taking.{commonMask, sumCount, signedMin, denseHead, raisedTo};
+ghost use Rattle.rollup.specs.Taking.{signedMin, denseHead, raisedTo};
 ghost use Rattle.rollup.specs.Stages.{LowerOwnPre, LowerOwnPost, RaiseByRowPre, RaiseByListPre, RaisePre, DensePre, DensePost};
 use crate::accumulator::Accumulator;
 use crate::accumulator::Form;
+use crate::incoming;
 use crate::incoming::Incoming;
 use lists::registers;
 use lists::values::Sparse;
@@ -71,22 +72,20 @@ fn raise(registers: &mut [u8], q: u32, x: Incoming, row: &[u8], values: &[u32])
 }
 
 // The head after it: the smaller of each precision. Its kept bytes, which question 1 does not ask for, stay as they are.
-fn dense_head(a: Accumulator, x: Incoming, q: u32) -> Accumulator
-    ensures { λ r. ⌜ r ≡ denseHead (commonMask a (x .mask)) (a .«value_type») (sumCount a (x .«num_values»)) q (signedMin (a .«sparse_precision») (x .«sparse_precision»)) (a .«sparse_size») (a .«sparse_bytes») ⌝ }
+fn dense_head(h: Accumulator, q: u32, s: u32) -> Accumulator
+    ensures { λ r. ⌜ r ≡ denseHead (h .allowed) (h .«value_type») (h .«num_values») q s (h .«sparse_size») (h .«sparse_bytes») ⌝ }
 {
-    let s = signed_min(a.sparse_precision, x.sparse_precision);
-    let count = std::num::wrapping_add_u64(a.num_values, x.num_values);
     let form = Form::Dense;
     Accumulator {
         form,
-        allowed: a.allowed & x.mask,
-        value_type: a.value_type,
-        num_values: count,
+        allowed: h.allowed,
+        value_type: h.value_type,
+        num_values: h.num_values,
         precision: q,
         sparse_precision: s,
-        sparse_size: a.sparse_size,
+        sparse_size: h.sparse_size,
         sparse_len: 0,
-        sparse_bytes: a.sparse_bytes,
+        sparse_bytes: h.sparse_bytes,
         pending_len: 0,
     }
 }
@@ -104,5 +103,6 @@ pub(crate) fn accept_dense(
 {
     let q = lower_own(registers, a.precision, x.precision);
     raise(registers, q, x, row, values);
-    dense_head(a, x, q)
+    let s = signed_min(a.sparse_precision, x.sparse_precision);
+    dense_head(incoming::counted(a, x), q, s)
 }

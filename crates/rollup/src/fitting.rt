@@ -4,7 +4,7 @@ ghost use mathlib.Core.Path.{_≡_};
 ghost use mathlib.Core.List.{[]};
 ghost use Prim.Native.Nat.{_≤_};
 ghost use Rattle.lists.specs.Values.{Pair};
-ghost use Rattle.rollup.specs.Accumulator.{mem, limit, maxPending, rangesFit, noLists, waitingFits, countsFit, listsFit, registersFit, sparseFits, denseFits, fits as headFits};
+ghost use Rattle.rollup.specs.Accumulator.{mem, limit, maxPending, rangesFit, noLists, waitingBound, waitingFits, countsFit, listsFit, registersFit, sparseFits, denseFits, fits as headFits};
 use crate::accumulator::Accumulator;
 use crate::accumulator::Form;
 use crate::accumulator::MAX_PENDING;
@@ -44,6 +44,14 @@ pub(crate) fn size_limit(p: u32) -> usize
     3 * (1 << (p - 2))
 }
 
+// Kept bytes, and five for each value that waits.
+pub(crate) fn waiting_bound(a: Accumulator) -> usize
+    requires { ⌜ (a .«pending_len» ≤ maxPending) × (a .«sparse_bytes» ≤ 2147483647) ⌝ }
+    ensures { λ r. ⌜ (r ≡ waitingBound a) × (r ≤ 2147493887) ⌝ }
+{
+    a.sparse_bytes + 5 * a.pending_len
+}
+
 // Whether the values that wait leave the list below the limit.
 fn waiting_fits(a: Accumulator) -> bool
     requires { ⌜ (4 ≤ a .precision) × (a .precision ≤ 24) × (a .«pending_len» ≤ maxPending) × (a .«sparse_bytes» ≤ 2147483647) ⌝ }
@@ -52,7 +60,7 @@ fn waiting_fits(a: Accumulator) -> bool
     if a.pending_len == 0 {
         return true;
     }
-    a.sparse_bytes + 5 * a.pending_len < size_limit(a.precision)
+    waiting_bound(a) < size_limit(a.precision)
 }
 
 // Whether the counts fit lists of `cells` and `waiting_cells` cells, and each other.

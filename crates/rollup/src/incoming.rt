@@ -1,4 +1,7 @@
 // What is taken in, beside its registers or its values: the numbers that module 6's paths use. Those of a state are one case (`state_numbers` in adding).
+ghost use mathlib.Core.Path.{_≡_};
+ghost use Rattle.rollup.specs.Taking.{counted};
+use crate::accumulator::Accumulator;
 
 pub struct Incoming {
     // The type mask.
@@ -14,4 +17,14 @@ pub struct Incoming {
     // What its values count for in the waiting test, and how many may wait together with them.
     pub growth: usize,
     pub most: usize,
+}
+
+// A head with the masks' common bits and the sum of the value counts, which wraps: what is taken in later changes that much of each.
+pub(crate) fn counted(a: Accumulator, x: Incoming) -> Accumulator
+    ensures { λ r. ⌜ r ≡ counted a x ⌝ }
+{
+    let mut r = a;
+    r.allowed = a.allowed & x.mask;
+    r.num_values = std::num::wrapping_add_u64(a.num_values, x.num_values);
+    r
 }

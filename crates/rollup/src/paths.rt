@@ -26,7 +26,7 @@ fn waits(a: Accumulator, x: Incoming, k: usize) -> bool
     requires { ⌜ WaitPre a x k ⌝ }
     ensures { λ r. ⌜ r ≡ waits a x k ⌝ }
 {
-    let bytes = a.sparse_bytes + 5 * a.pending_len + x.growth;
+    let bytes = fitting::waiting_bound(a) + x.growth;
     if fitting::size_limit(a.precision) <= bytes {
         return false;
     }

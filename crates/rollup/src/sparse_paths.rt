@@ -11,11 +11,12 @@ ghost use Rattle.lists.specs.Lists.{written, MergePost};
 ghost use Rattle.lists.specs.Registers.{withRegisters, zeros, raisedBy, larger, SetListPre};
 ghost use Rattle.rollup.specs.declared.accumulator.Form.the-variants.{Sparse as ListForm};
 ghost use Rattle.rollup.specs.Accumulator.{mem};
-ghost use Rattle.rollup.specs.Taking.{counted, withList, densed, settle, allMerged, sparseAfter, Shows};
+ghost use Rattle.rollup.specs.Taking.{withList, densed, settle, allMerged, sparseAfter, Shows};
 ghost use Rattle.rollup.specs.Stages.{SettlePre, Leaves, BackPre, JoinPre, MergeInPre, InsertInPre, SetListsPre, DensifyPre, TakingPre};
 use crate::accumulator::Accumulator;
 use crate::accumulator::Form;
 use crate::fitting;
+use crate::incoming;
 use crate::incoming::Incoming;
 use crate::paths::Path;
 use lists::inserting;
@@ -26,16 +27,6 @@ use lists::sorting;
 use lists::values::Sparse;
 
 // ---- heads
-
-// The head with the masks' common bits and the sum of the value counts, which wraps.
-fn counted(a: Accumulator, x: Incoming) -> Accumulator
-    ensures { λ r. ⌜ r ≡ counted a x ⌝ }
-{
-    let mut r = a;
-    r.allowed = a.allowed & x.mask;
-    r.num_values = std::num::wrapping_add_u64(a.num_values, x.num_values);
-    r
-}
 
 // The head of a list, and of registers.
 fn with_list(h: Accumulator, size: u32, len: usize, bytes: usize, waiting: usize) -> Accumulator
@@ -242,7 +233,7 @@ pub(crate) fn accept_sparse(
     requires { ⌜ (a .form ≡ ListForm) × TakingPre a (mem (now registers) (now sparse) (now pending)) (now scratch) x path (now row) k ⌝ }
     ensures { λ r. ⌜ Shows (sparseAfter a (mem (now (registers .entry)) (now (sparse .entry)) (now (pending .entry))) x (now (row .entry)) (take k (now (scratch .entry)))) r (mem (now (registers .exit)) (now (sparse .exit)) (now (pending .exit))) ⌝ }
 {
-    let h = counted(a, x);
+    let h = incoming::counted(a, x);
     if row.len() != 0 {
         return densify_with(
             h,

@@ -1,5 +1,5 @@
 // Taking in, by the roll-up's form.
-ghost use lib.ListN.{take as first};
+ghost use lib.ListN.{take as front};
 ghost use Rattle.rollup.specs.Accumulator.{mem};
 ghost use Rattle.rollup.specs.Taking.{takenAfter, Shows};
 ghost use Rattle.rollup.specs.Stages.{TakingPre};
@@ -24,7 +24,7 @@ pub(crate) fn take(
     k: usize,
 ) -> Accumulator
     requires { ⌜ TakingPre a (mem (now registers) (now sparse) (now pending)) (now scratch) x path (now row) k ⌝ }
-    ensures { λ r. ⌜ Shows (takenAfter (a .form) a (mem (now (registers .entry)) (now (sparse .entry)) (now (pending .entry))) x (now (row .entry)) (first k (now (scratch .entry)))) r (mem (now (registers .exit)) (now (sparse .exit)) (now (pending .exit))) ⌝ }
+    ensures { λ r. ⌜ Shows (takenAfter (a .form) a (mem (now (registers .entry)) (now (sparse .entry)) (now (pending .entry))) x (now (row .entry)) (front k (now (scratch .entry)))) r (mem (now (registers .exit)) (now (sparse .exit)) (now (pending .exit))) ⌝ }
 {
     let form = a.form;
     match form {

@@ -11,6 +11,12 @@ lower-own-requires c κs = c .before .before .before .before .pre .own
 raise-requires : tie.Need-raise-requires
 raise-requires c κs = let o = c .before .before .before .before .before .before .before .before in dense-raise (o .args .a) (now (o .args .registers)) (o .args .x) (now (o .args .row)) (now (o .args .values)) (o .pre) (c .before .before .before .lower-own .result) _ (c .before .before .before .lower-own .ensures)
 
+signed-min-requires : tie.Need-signed-min-requires
+signed-min-requires c κs = search needs
+
+counted-requires : tie.Need-counted-requires
+counted-requires c κs = search needs
+
 dense-head-requires : tie.Need-dense-head-requires
 dense-head-requires c κs = search needs
 
@@ -18,8 +24,8 @@ same-length : tie.Need-same-length
 same-length c = search needs
 
 returns : tie.Need-returns
-returns c = let o = c .before .before .before .before .before .before .before .before .before .before .before .before in dense-post (o .args .a) (now (o .args .registers)) (o .args .x) (now (o .args .row)) (now (o .args .values)) (o .pre) (c .before .before .before .before .before .before .before .lower-own .result) _ (c .before .before .before .before .before .before .before .lower-own .ensures) (c .dense-head .result) _ (c .before .before .before .raise .ensures) (c .dense-head .ensures)
+returns c = let o = c .before .before .before .before .before .before .before .before .before .before .before .before .before .before in dense-post (o .args .a) (now (o .args .registers)) (o .args .x) (now (o .args .row)) (now (o .args .values)) (o .pre) (c .before .before .before .before .before .before .before .before .before .lower-own .result) _ (c .before .before .before .before .before .before .before .before .before .lower-own .ensures) (c .before .counted .result) (c .dense-head .result) (c .before .before .signed-min .result) _ (c .before .before .before .before .before .raise .ensures) (c .before .counted .ensures) (c .before .before .signed-min .ensures) (c .dense-head .ensures)
 
 pub accept-dense-spec : {M : Type 1} → statement M
 accept-dense-spec =
-    tie.close (tie.spec lower-own-requires raise-requires dense-head-requires same-length returns)
+    tie.close (tie.spec lower-own-requires raise-requires signed-min-requires counted-requires dense-head-requires same-length returns)

@@ -1,8 +1,8 @@
 -- The sum wraps as the definition has it (`counted-head`).
 use Rattle.rollup.proofs.SparseLaws.{counted-head}
 use borrow.Author.Needs.{needs}
-use Rattle.rollup.proofs.sparse_paths.counted.Statement.{statement}
-use Rattle.rollup.proofs.sparse_paths.counted.Tie as tie
+use Rattle.rollup.proofs.incoming.counted.Statement.{statement}
+use Rattle.rollup.proofs.incoming.counted.Tie as tie
 
 wrapping-add-u64-requires : tie.Need-wrapping-add-u64-requires
 wrapping-add-u64-requires c κs = search needs
