@@ -19,7 +19,7 @@ pub struct Incoming {
     pub most: usize,
 }
 
-// A head with the masks' common bits and the sum of the value counts, which wraps: what is taken in later changes that much of each.
+// A head with the masks' common bits and the sum of the value counts, which wraps: whatever comes after the first changes these two.
 pub(crate) fn counted(a: Accumulator, x: Incoming) -> Accumulator
     ensures { λ r. ⌜ r ≡ counted a x ⌝ }
 {
