@@ -8,7 +8,7 @@ use lib.Count.{leadingZeros}
 use Rattle.wire.specs.Reading.{Read, got, refused}
 use Rattle.wire.specs.Varints.{varintOf}
 use Rattle.wire.specs.Examples.{Example, allHold}
-use Rattle.lists.specs.Values.{mark, marked, valid, register, plainRank, rank, loweredRank}
+use Rattle.lists.specs.Values.{mark, marked, plainEnd, leastMarkedRank, valid, register, plainRank, rank, loweredRank}
 use Rattle.lists.specs.Lists.{stepOf, gapOf, sumsOf, allValid, decodeOf}
 
 abbrev refusedWith : ℕ → Read (List ℕ) → Bool
@@ -17,7 +17,7 @@ refusedWith n (refused m) = eqb m n
 
 -- E1 at (10,15), 33 is register 1, rank 5. E2 65667 is register 2, rank 8. E3 it lowers to p = 9 as register 1, rank 9; E4 to p = 8 as
 -- register 0, rank 1. E8 a gap's fifth byte `0f` passes 19, and its value then gets 20; `10` is refused with 19. E9 at (10,10), plain 1
--- has rank 64.
+-- is a refused list (document 02, U3).
 abbrev pub listExamples : List Example
 listExamples =
     record { number = 1; holds = eqb (register 10 15 33) 1 && eqb (rank 10 15 33) 5 }
@@ -30,9 +30,9 @@ listExamples =
           refusedWith 20 (decodeOf 10 15 (0x80 ∷ 0x80 ∷ 0x80 ∷ 0x80 ∷ 0x0f ∷ []))
           && refusedWith 19 (decodeOf 10 15 (0x80 ∷ 0x80 ∷ 0x80 ∷ 0x80 ∷ 0x10 ∷ []));
     }
-    ∷ record { number = 9; holds = eqb (rank 10 10 1) 64 }
+    ∷ record { number = 9; holds = refusedWith 20 (decodeOf 10 10 (0x01 ∷ [])) }
     ∷ []
 
 pub list-examples-hold : allHold listExamples ≡ true
-unfolding mark marked valid register plainRank rank loweredRank leadingZeros varintOf gapOf stepOf sumsOf allValid decodeOf
+unfolding mark marked plainEnd leastMarkedRank valid register plainRank rank loweredRank leadingZeros varintOf gapOf stepOf sumsOf allValid decodeOf
 list-examples-hold = refl

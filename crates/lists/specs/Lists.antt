@@ -2,7 +2,7 @@
 -- "variable length encoding").
 use mathlib.Core.Path.{_≡_}
 use mathlib.Core.List.{List, [], _∷_, _++_}
-use mathlib.Core.Bool.{Bool, true, false, cond, _&&_, _||_}
+use mathlib.Core.Bool.{Bool, true, false, cond, not, _&&_, _||_}
 use Prim.Native.Nat.{ℕ, zero, suc, _+_, _-_, _/_, _*_, _%_, _^_, _<_, _≤_}
 use lib.Dec.{ltb, eqb}
 use lib.ListN.{length, take, drop}
@@ -16,7 +16,7 @@ use Rattle.lists.specs.declared.decoding.Decoded.{Decoded}
 use Rattle.lists.specs.declared.decoding.Decoded.the-variants.{Done, Refused}
 use Rattle.lists.specs.declared.merging.Merged.{Merged}
 use Rattle.lists.specs.declared.values.Sparse.{Sparse}
-use Rattle.lists.specs.Values.{marked, markedRank, valid, sparseIndex, SparseFits}
+use Rattle.lists.specs.Values.{mark, marked, markedEnd, markedRankFits, valid, sparseIndex, SparseFits}
 use Rattle.lists.specs.Sorting.{ascends, sortOf}
 
 -- ---- reading
@@ -52,9 +52,10 @@ gapRefusal (Value v next) = 0
 gapRefusal Cut = 18
 gapRefusal Long = 19
 
--- What is refused with 20 where it is read: a sum below the last one, and "the low six bits [more than] 65−s where the mark bit is set".
+-- What is refused with 20 where it is read: a sum below the last one, "the low six bits [more than] 65−s where the mark bit is set", and with s = p "a marked value
+-- with m = 0 …, the marked one where it is read" (U3). The mark bit alone decides here, whatever stands above it.
 abbrev pub refusedHere : ℕ → ℕ → ℕ → ℕ → Bool
-refusedHere p s last v = ltb v last || (marked p s v && ltb (65 - s) (markedRank v))
+refusedHere p s last v = ltb v last || (marked p s v && not (markedRankFits p s v))
 
 -- One value after `last`, and the bytes after its gap: "running sums wrap in u32". Where no bytes are left there is no gap (18).
 unfoldable pub stepOf : ℕ → ℕ → List ℕ → ℕ → Read ℕ
@@ -93,17 +94,22 @@ unfoldable pub allValid : ℕ → ℕ → List ℕ → Bool
 allValid p s [] = true
 allValid p s (v ∷ l) = valid p s v && allValid p s l
 
--- "At the end, every value valid?"
+-- "At the end, every value valid?" With s = p, "plain ones at the end of the list" (U3).
 unfoldable pub decodeOf : ℕ → ℕ → List ℕ → Read (List ℕ)
 decodeOf p s l = andThen (sumsOf p s (length l) l 0) (λ vs rest. cond (allValid p s vs) (got vs rest) (refused 20))
 
--- The last value with the mark bit clear, where v comes after `plain`; and whether that one and the last of all are valid: of the values of a
--- list that was read these two decide for all.
+-- Of the values of a list that was read two decide for all: the last one with the mark bit clear, and the last of all. Where there is no such value, one that is
+-- valid at every pair stands for it: the marked one of index 0 with m = 1.
+abbrev pub noPlain : ℕ → ℕ → ℕ
+noPlain p s = mark p s + 1
+
+-- The last value with the mark bit clear, where v comes after `plain`.
 abbrev pub laterPlain : ℕ → ℕ → ℕ → ℕ → ℕ
 laterPlain p s plain v = cond (marked p s v) plain v
 
+-- Of the last of all only the index is left to ask: its low six bits were looked at where it was read.
 abbrev pub endsValid : ℕ → ℕ → ℕ → ℕ → Bool
-endsValid p s plain last = valid p s plain && valid p s last
+endsValid p s plain last = valid p s plain && ltb last (markedEnd p s)
 
 -- The count and the values in the first cells, or the refusal's number.
 abbrev pub Decodes : Read (List ℕ) → Decoded → List ℕ → Type 0

@@ -25,9 +25,24 @@ markedIndex p s v = (v - mark p s) / 64
 abbrev pub markedRank : ℕ → ℕ
 markedRank v = v % 64
 
--- "A plain value is an index below 2^s." "A marked value is mark + 64 × index + m, with index below 2^p and m at most 65−s."
+-- "A plain value is an index below 2^s." Document 02, U3: "In the 2013 paper's coding every value is marked when no bits lie between the precisions." So with
+-- s = p none is plain.
+unfoldable pub plainEnd : ℕ → ℕ → ℕ
+plainEnd p s = cond (eqb s p) 0 (2 ^ s)
+
+-- "A marked value is mark + 64 × index + m, with index below 2^p"
+abbrev pub markedEnd : ℕ → ℕ → ℕ
+markedEnd p s = mark p s + 64 * 2 ^ p
+
+-- "and m at most 65−s." U3: "With s = p, a plain value and a marked value with m = 0 now get 20."
+unfoldable pub leastMarkedRank : ℕ → ℕ → ℕ
+leastMarkedRank p s = cond (eqb s p) 1 0
+
+abbrev pub markedRankFits : ℕ → ℕ → ℕ → Bool
+markedRankFits p s v = leb (leastMarkedRank p s) (markedRank v) && leb (markedRank v) (65 - s)
+
 unfoldable pub valid : ℕ → ℕ → ℕ → Bool
-valid p s v = cond (marked p s v) (ltb v (mark p s + 64 * 2 ^ p) && leb (markedRank v) (65 - s)) (ltb v (2 ^ s))
+valid p s v = cond (marked p s v) (ltb v (markedEnd p s) && markedRankFits p s v) (ltb v (plainEnd p s))
 
 -- The sparse index: of s bits. A marked value's lowest s−p bits are zero.
 unfoldable pub sparseIndex : ℕ → ℕ → ℕ → ℕ
@@ -37,25 +52,24 @@ sparseIndex p s v = cond (marked p s v) (markedIndex p s v * 2 ^ (s - p)) v
 unfoldable pub register : ℕ → ℕ → ℕ → ℕ
 register p s v = cond (marked p s v) (markedIndex p s v) (v / 2 ^ (s - p))
 
--- "Its rank is 1 plus the leading zeros of its low s−p bits, all zero giving s−p+1." "With s = p the Rust's shift by 64 does nothing: plain v
--- has rank 1 plus the leading zeros of v as 64 bits, and v = 0 rank 1."
+-- "Its rank is 1 plus the leading zeros of its low s−p bits, all zero giving s−p+1."
 unfoldable pub plainRank : ℕ → ℕ → ℕ
-plainRank bits v = cond (eqb bits 0) (cond (eqb v 0) 1 (1 + leadingZeros 64 v)) (1 + leadingZeros bits (v % 2 ^ bits))
+plainRank bits v = 1 + leadingZeros bits (v % 2 ^ bits)
 
 -- A marked value's "rank is m+s−p".
 unfoldable pub rank : ℕ → ℕ → ℕ → ℕ
 rank p s v = cond (marked p s v) (markedRank v + (s - p)) (plainRank (s - p) v)
 
--- A bound of every rank, lowered ones too: "no register above 88−p". With s = p a plain value's rank is up to 64, and p is up to 24; every
--- other rank is at most 65 - p. Lowering by d bits adds at most d to a rank, and d to this.
+-- The largest rank at p bits: "No register above 65−p?" (14); "Question 1 asks for registers at most 65−p" (U3). A plain value's is at most s−p+1, and a marked
+-- one's at most 65−s+s−p. Lowering by d bits adds at most d to a rank, and d to this.
 abbrev pub largestRank : ℕ → ℕ
-largestRank p = 88 - p
+largestRank p = 65 - p
 
 -- "Lowering a register of rank r above 0 by d bits: low d index bits zero give r+d, else 1 plus their leading zeros."
 unfoldable pub loweredRank : ℕ → ℕ → ℕ → ℕ
 loweredRank d index r = cond (eqb (index % 2 ^ d) 0) (r + d) (1 + leadingZeros d (index % 2 ^ d))
 
--- "A register of rank 0 stays 0; a listed value of rank 0 takes the rule with r = 0."
+-- "A register of rank 0 stays 0." No valid value of a list has rank 0 (`valid-ranked` in proofs/ValueLaws).
 unfoldable pub loweredRegister : ℕ → ℕ → ℕ → ℕ
 loweredRegister d index r = cond (eqb r 0) 0 (loweredRank d index r)
 

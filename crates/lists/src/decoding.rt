@@ -5,7 +5,7 @@ ghost use mathlib.Core.Path.{_≡_};
 ghost use Prim.Native.Nat.{_<_, _≤_};
 ghost use lib.ListN.{length};
 ghost use Rattle.lists.specs.Values.{SparseFits};
-ghost use Rattle.lists.specs.Lists.{GapPost, NextValuePost, gapRefusal, stepRefusal, refusedHere, laterPlain, endsValid, DecodePost};
+ghost use Rattle.lists.specs.Lists.{GapPost, NextValuePost, gapRefusal, stepRefusal, refusedHere, noPlain, laterPlain, endsValid, DecodePost};
 use crate::values;
 use crate::values::Sparse;
 
@@ -119,7 +119,7 @@ fn refused_here(enc: Sparse, last: u32, v: u32) -> bool
     if !values::is_rho_encoded(enc, v) {
         return false;
     }
-    65 - enc.sparse_precision < v % 64
+    !values::marked_rank_fits(enc, v)
 }
 
 // The value after `last`, whose gap is at `at`.
@@ -138,6 +138,14 @@ pub fn next_value(bytes: &[u8], enc: Sparse, at: usize, last: u32) -> Step
     Step::Next(v, next)
 }
 
+// What stands for the last value with the mark bit clear before there is one.
+pub fn no_plain(enc: Sparse) -> u32
+    requires { ⌜ SparseFits enc ⌝ }
+    ensures { λ r. ⌜ r ≡ noPlain (enc .«normal_precision») (enc .«sparse_precision») ⌝ }
+{
+    enc.rho_encoded_flag + 1
+}
+
 // The last value with the mark bit clear, where v comes after `plain`.
 pub fn later_plain(enc: Sparse, plain: u32, v: u32) -> u32
     requires { ⌜ SparseFits enc ⌝ }
@@ -150,8 +158,8 @@ pub fn later_plain(enc: Sparse, plain: u32, v: u32) -> u32
     }
 }
 
-// Whether every value of a list is valid, by two of them: the last one with the mark bit clear and the last one of all, each 0 where there is
-// none. The values do not descend, so that these are valid only where all are: the others are not tested at the end.
+// Whether every value of a list is valid, by two of them: the last one with the mark bit clear and the last one of all, which is 0 where there is
+// none. The values do not descend, so that no plain one is above the first of these, and no index above that of the second: the others are not tested at the end.
 pub fn ends_valid(enc: Sparse, plain: u32, last: u32) -> bool
     requires { ⌜ SparseFits enc ⌝ }
     ensures { λ r. ⌜ r ≡ endsValid (enc .«normal_precision») (enc .«sparse_precision») plain last ⌝ }
@@ -159,7 +167,7 @@ pub fn ends_valid(enc: Sparse, plain: u32, last: u32) -> bool
     if !values::is_valid(enc, plain) {
         return false;
     }
-    values::is_valid(enc, last)
+    last < values::marked_end(enc)
 }
 
 // A list's values, into `out`.
@@ -171,7 +179,7 @@ pub fn decode_validated_into(bytes: &[u8], enc: Sparse, out: &mut [u32]) -> Deco
     let mut at: usize = 0;
     let mut k: usize = 0;
     let mut last: u32 = 0;
-    let mut plain: u32 = 0;
+    let mut plain = no_plain(enc);
     while at < bytes.len() {
         let r = next_value(bytes, enc, at, last);
         let Step::Next(v, next) = r else {

@@ -4,7 +4,7 @@
 ghost use mathlib.Core.Path.{_≡_};
 ghost use mathlib.Core.Bool.{true};
 ghost use Prim.Native.Nat.{_+_, _≤_, _<_, max};
-ghost use Rattle.lists.specs.Values.{Pair, SparseFits, NewPost, IndexPost, RankPost, marked, valid, sparseIndex, plainRank, loweredRank};
+ghost use Rattle.lists.specs.Values.{Pair, SparseFits, NewPost, IndexPost, RankPost, marked, plainEnd, markedEnd, leastMarkedRank, markedRankFits, valid, sparseIndex, plainRank, largestRank, loweredRank};
 
 // A pair of precisions, with the mark that goes with it.
 pub struct Sparse {
@@ -42,18 +42,55 @@ pub fn is_rho_encoded(enc: Sparse, v: u32) -> bool
     v & enc.rho_encoded_flag != 0
 }
 
-// Whether a list of this pair may have a value. A marked one's index stands between the low six bits and the mark.
+// The end of the plain values. With s = p every value is marked.
+fn plain_end(enc: Sparse) -> u32
+    requires { ⌜ SparseFits enc ⌝ }
+    ensures { λ r. ⌜ r ≡ plainEnd (enc .«normal_precision») (enc .«sparse_precision») ⌝ }
+{
+    if enc.sparse_precision == enc.normal_precision {
+        return 0;
+    }
+    1 << enc.sparse_precision
+}
+
+// The end of the marked values, whose index stands between the low six bits and the mark.
+pub(crate) fn marked_end(enc: Sparse) -> u32
+    requires { ⌜ SparseFits enc ⌝ }
+    ensures { λ r. ⌜ r ≡ markedEnd (enc .«normal_precision») (enc .«sparse_precision») ⌝ }
+{
+    enc.rho_encoded_flag + (64 << enc.normal_precision)
+}
+
+// The least low six bits of a marked value: with s = p they are its rank, which is not 0.
+fn least_marked_rank(enc: Sparse) -> u32
+    ensures { λ r. ⌜ r ≡ leastMarkedRank (enc .«normal_precision») (enc .«sparse_precision») ⌝ }
+{
+    if enc.sparse_precision == enc.normal_precision { 1 } else { 0 }
+}
+
+// Whether the low six bits of a marked value are those of a rank.
+pub(crate) fn marked_rank_fits(enc: Sparse, v: u32) -> bool
+    requires { ⌜ SparseFits enc ⌝ }
+    ensures { λ r. ⌜ r ≡ markedRankFits (enc .«normal_precision») (enc .«sparse_precision») v ⌝ }
+{
+    if v % 64 < least_marked_rank(enc) {
+        return false;
+    }
+    v % 64 <= 65 - enc.sparse_precision
+}
+
+// Whether a list of this pair may have a value.
 pub fn is_valid(enc: Sparse, v: u32) -> bool
     requires { ⌜ SparseFits enc ⌝ }
     ensures { λ r. ⌜ r ≡ valid (enc .«normal_precision») (enc .«sparse_precision») v ⌝ }
 {
     if !is_rho_encoded(enc, v) {
-        return v < 1 << enc.sparse_precision;
+        return v < plain_end(enc);
     }
-    if enc.rho_encoded_flag + (64 << enc.normal_precision) <= v {
+    if marked_end(enc) <= v {
         return false;
     }
-    v % 64 <= 65 - enc.sparse_precision
+    marked_rank_fits(enc, v)
 }
 
 // The index of a value among 2^s.
@@ -78,17 +115,11 @@ pub fn decode_normal_index(enc: Sparse, v: u32) -> u32
     (v - enc.rho_encoded_flag) / 64
 }
 
-// 1 plus the leading zeros of the low bits; with no bits, of the value as 64 bits, as the Rust's shift by 64 has it.
+// 1 plus the leading zeros of the low bits.
 pub fn compute_rho_w(value: u32, bits: u32) -> u8
     requires { ⌜ bits ≤ 21 ⌝ }
     ensures { λ r. ⌜ r ≡ plainRank bits value ⌝ }
 {
-    if bits == 0 {
-        if value == 0 {
-            return 1;
-        }
-        return (u64::leading_zeros(value as u64) + 1) as u8;
-    }
     let low = value & ((1 << bits) - 1);
     (u32::leading_zeros(low) + bits - 31) as u8
 }
@@ -102,6 +133,14 @@ pub fn decode_normal_rho_w(enc: Sparse, v: u32) -> u8
         return compute_rho_w(v, enc.sparse_precision - enc.normal_precision);
     }
     (v % 64 + enc.sparse_precision - enc.normal_precision) as u8
+}
+
+// The largest rank of a register at p bits.
+pub fn largest_rank(p: u32) -> u8
+    requires { ⌜ p ≤ 24 ⌝ }
+    ensures { λ r. ⌜ r ≡ largestRank p ⌝ }
+{
+    (65 - p) as u8
 }
 
 // The rank that a register, or a listed value, of rank `rho_w` has d bits lower.

@@ -87,7 +87,7 @@ listsFit a kept waiting =
     && ascends kept
     && leb (written kept) (a .«sparse_bytes»)
 
--- "The two counts fit their own lists and, if dense, 2^p the registers"; "no register above 88−p".
+-- "The two counts fit their own lists and, if dense, 2^p the registers"; "registers at most 65−p" (document 02, U3).
 abbrev pub registersFit : ℕ → List ℕ → Bool
 registersFit p registers = leb (registerBytes p) (length registers) && leb (largest (registersOf p registers)) (largestRank p)
 

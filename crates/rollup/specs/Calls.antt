@@ -9,7 +9,6 @@ use lib.Bits.{bitAnd}
 use lib.ListN.{length, take}
 use Rattle.wire.specs.Reading.{Read, got, refused}
 use Rattle.wire.specs.State.{State, emptyState, readState}
-use Rattle.lists.specs.Values.{rank}
 use Rattle.lists.specs.Registers.{registersOf, rankAt, larger, tabulate, lowered}
 use Rattle.rollup.specs.declared.accumulator.Form.{Form}
 use Rattle.rollup.specs.declared.accumulator.Form.the-variants.{Unstarted, Sparse, Dense}
@@ -130,11 +129,6 @@ Answered (adding {a = a} {m = m} room bytes r n steps post) = Answered steps × 
 Answered (writing {a = a} {m = m} room out r n after steps post) = Answered steps × (r .answer ≡ writeOutcome a m room (length out) .answer)
 Answered (moving n steps post) = Answered steps
 
--- The premise: no value listed in an accepted state has rank 0.
-unfoldable pub NoZeroRank : List State → Type 0
-NoZeroRank sts =
-    (st : State) → List·Memᴰ st sts → (v : ℕ) → List·Memᴰ v (valuesIn st) → 0 < rank (st .hll .precision) (st .hll .sparsePrecision) v
-
 pub record Agrees (first : Mem) (calls : List Call) (a : Accumulator) (m : Mem) (run : Run first calls a m) : Type 0 where
   pub answers : Answered run
   pub none : accepted calls ≡ [] → a ≡ fresh
@@ -151,9 +145,9 @@ Unmoved (wrote room out n ∷ calls) = Unmoved calls
 Unmoved (moved ∷ calls) = ⊥
 
 -- Demand 3 as the demands word it is the case of `Unmoved` calls that are all lent one `scratch`: "each call is given the head and the lent memory as the last one
--- left them".
+-- left them". Of the states nothing is asked: document 02, U3, takes away the clause that "no value listed in an accepted state has rank 0".
 unfoldable pub DemandThree : Type 0
-DemandThree = (first : Mem) (calls : List Call) (a : Accumulator) (m : Mem) (run : Run first calls a m) → NoZeroRank (states calls) → Agrees first calls a m run
+DemandThree = (first : Mem) (calls : List Call) (a : Accumulator) (m : Mem) (run : Run first calls a m) → Agrees first calls a m run
 
 -- ---- its consequence
 
@@ -170,11 +164,10 @@ pub record Alike (a : Accumulator) (m : Mem) (b : Accumulator) (n : Mem) : Type 
   pub mask : a .allowed ≡ b .allowed
   pub registers : rollupRegisters (a .form) a m ≡ rollupRegisters (b .form) b n
 
--- Whatever the order, the repeats, the refusals, the writes and the moves between, and whatever memory was lent.
+-- Whatever the order, the repeats, the refusals, the writes and the moves between, and whatever memory was lent: "two desks agree without the clause on rank 0" (U3).
 unfoldable pub OrderFree : Type 0
 OrderFree =
-    (first first′ : Mem) (c d : List Call) (a b : Accumulator) (m n : Mem) → Run first c a m → Run first′ d b n → NoZeroRank (states c) → SameStates c d
-    → Alike a m b n
+    (first first′ : Mem) (c d : List Call) (a b : Accumulator) (m n : Mem) → Run first c a m → Run first′ d b n → SameStates c d → Alike a m b n
 
 -- ---- what is written
 

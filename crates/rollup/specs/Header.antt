@@ -1,11 +1,12 @@
 -- Header rules: document 01, module 5, and the questions that are asked of a state by itself, 2 to 14.
 use mathlib.Core.List.{List, []}
 use mathlib.Core.Bool.{Bool, true, false, cond, _&&_, _||_, not}
-use Prim.Native.Nat.{ℕ, _-_, _^_}
+use Prim.Native.Nat.{ℕ, _^_}
 use lib.Dec.{leb, eqb}
 use lib.ListN.{length}
 use Rattle.wire.specs.Reading.{Read, got, refused, andThen}
 use Rattle.wire.specs.State.{State, bytesOrNone, readState}
+use Rattle.lists.specs.Values.{largestRank}
 use Rattle.lists.specs.Registers.{largest}
 use Rattle.rollup.specs.Accumulator.{normalRange, sparseRange}
 
@@ -68,11 +69,8 @@ structureAnswer st =
     (ask (listHasPrecision st) 10 (ask (normalRange (st .hll .precision)) 11 (ask (dataHasLength st) 12 (ask (pairInRange st) 13 0))))
 
 -- "14: No register above 65−p?"
-abbrev pub topRank : ℕ → ℕ
-topRank p = 65 - p
-
 abbrev pub registersInRange : State → Bool
-registersInRange st = leb (largest (dataOf st)) (topRank (st .hll .precision))
+registersInRange st = leb (largest (dataOf st)) (largestRank (st .hll .precision))
 
 -- Questions 7 to 14, of a state that was read.
 unfoldable pub headerAnswer : State → ℕ

@@ -122,8 +122,7 @@ fn registers_fit(p: u32, registers: &[u8]) -> bool
     if registers.len() < register_bytes(p) {
         return false;
     }
-    let most = largest_register(registers, p) as u32;
-    most <= 88 - p
+    largest_register(registers, p) <= values::largest_rank(p)
 }
 
 // Whether a dense roll-up fits. Of the memory only the registers count.

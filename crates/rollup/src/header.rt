@@ -10,6 +10,7 @@ ghost use Rattle.wire.specs.State.{stateOf};
 ghost use Rattle.rollup.specs.Accumulator.{normalRange, sparseRange};
 ghost use Rattle.rollup.specs.Header.{dataOf, listOf, isEmpty, isValueType, maskOf, kindAnswer, listHasPrecision, dataHasLength, needsPair, structureAnswer, registersInRange, headerAnswer};
 use lists::registers;
+use lists::values;
 use wire::state;
 use wire::state::Fields;
 
@@ -176,7 +177,7 @@ pub fn validate_structure(bytes: &[u8], f: Fields) -> u8
     0
 }
 
-// 14: no register above 65 - p.
+// 14: no register above the largest rank.
 fn registers_in_range(bytes: &[u8], f: Fields) -> bool
     requires { ⌜ structureAnswer (stateOf (now bytes) f) ≡ 0 ⌝ }
     ensures { λ r. ⌜ r ≡ registersInRange (stateOf (now (bytes .entry)) f) ⌝ }
@@ -186,7 +187,7 @@ fn registers_in_range(bytes: &[u8], f: Fields) -> bool
     if d.len() == 0 {
         return true;
     }
-    registers::largest_register(d, h.precision) as u32 <= 65 - h.precision
+    registers::largest_register(d, h.precision) <= values::largest_rank(h.precision)
 }
 
 // 7 to 14: document 01's number of the first whose answer is no, or 0.
