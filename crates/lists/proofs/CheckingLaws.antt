@@ -1,5 +1,5 @@
 -- Laws of testing a list value by value: the whole is what was found so far and what the rest makes of it.
-use Prim.Native.Nat.{ℕ, suc, _+_, _-_, _^_, _<_, _≤_}
+use Prim.Native.Nat.{ℕ, suc, _+_, _-_, _<_, _≤_}
 use mathlib.Core.Path.{_≡_, refl, sym, ap, _∙_}
 use mathlib.Core.List.{List, [], _∷_}
 use mathlib.Core.Bool.{Bool, true, false, _&&_, and-assoc, and-true}
@@ -14,8 +14,8 @@ use Rattle.lists.specs.Values.{mark, valid}
 use Rattle.lists.specs.Sorting.{notBefore, ascends}
 use Rattle.lists.specs.Order.{Ascending, Below, lastOf}
 use Rattle.lists.specs.Lists.{allValid}
-use Rattle.lists.proofs.ValueLaws.{below-mark, valid-plain}
-use Rattle.lists.proofs.DecodingLaws.{small-valid, all-append}
+use Rattle.lists.proofs.ValueLaws.{below-mark, small-valid, valid-plain}
+use Rattle.lists.proofs.DecodingLaws.{all-append}
 use Rattle.lists.proofs.OrderLaws.{ascending}
 use Rattle.lists.proofs.SortingLaws.{last-take}
 
@@ -79,7 +79,7 @@ last-value l h =
 module _ (p s : ℕ) where
   -- A value that is no larger than a valid one below the mark.
   valid-lower : (x y : ℕ) → x ≤ y → y < mark p s → valid p s y ≡ true → valid p s x ≡ true
-  valid-lower x y h g v = small-valid p s x (let k : x < 2 ^ s = omega (arith, valid-plain p s y (below-mark p s y g) v) in k)
+  valid-lower x y h g v = small-valid p s x (omega (arith, valid-plain p s y (below-mark p s y g) v))
 
   by-last : (x : ℕ) (l : List ℕ) → Ascending x l → Below (mark p s) (x ∷ l) → allValid p s (x ∷ l) ≡ valid p s (lastOf x l)
   unfolding allValid

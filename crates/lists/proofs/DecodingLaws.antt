@@ -2,15 +2,16 @@
 use Prim.Native.Nat.{ℕ, zero, suc, _+_, _*_, _-_, _%_, _^_, _<_, _≤_}
 use mathlib.Core.Path.{_≡_, refl, sym, ap, ap₂, _∙_, subst}
 use mathlib.Core.List.{List, [], _∷_, _++_, append-assoc, append-nil}
-use mathlib.Core.Bool.{Bool, true, false, cond, _&&_, _||_, and-assoc, and-true, true≢false}
+use mathlib.Core.Bool.{Bool, true, false, cond, not, _&&_, _||_, and-assoc, and-true}
 use mathlib.Core.Logic.{_⊎_, inl, inr, ⊎-elim}
+use native.Mathlib.Nat.{le-refl, le-trans, lt-of-le-of-lt}
 use native.Mathlib.Numerals.{add-one}
 use native.Mathlib.Omega.{arith}
 use lib.ListN.{length, set, drop, take, getD, drop-of-length-le, length-drop, length-append}
 use lib.Seq.{length-take-le, take-suc-set}
 use lib.Pow.{pow-pos}
 use lib.Dec.{ltb, leb, eqb}
-use borrow.Author.Tests.{lt-ltb, le-ltb, le-leb, ltb-true, ltb-false, leb-true}
+use borrow.Author.Tests.{not-false, lt-ltb, le-ltb, le-leb, ltb-true, ltb-false, leb-true}
 use Rattle.wire.proofs.BoolLaws.{both, both-true, absorbed, whichever}
 use Rattle.wire.specs.Reading.{Read, got, refused, andThen}
 use Rattle.wire.specs.Varints.{varintOf, varintBytes}
@@ -23,10 +24,10 @@ use Rattle.lists.specs.declared.decoding.Gap.the-variants.{Value, Cut, L
 use Rattle.lists.specs.declared.decoding.Step.{Step}
 use Rattle.lists.specs.declared.decoding.Step.the-variants.{Next, Refused as StepRefused}
 use Rattle.lists.specs.declared.decoding.Decoded.the-variants.{Done, Refused}
-use Rattle.lists.specs.Values.{marked, valid, Pair}
+use Rattle.lists.specs.Values.{mark, marked, markedEnd, leastMarkedRank, markedRankFits, valid, Pair}
 use Rattle.lists.specs.Sorting.{notBefore, ascends}
-use Rattle.lists.specs.Lists.{gapAnswer, gapOf, GapPost, gapRefusal, refusedHere, before, sumsOf, stepOf, stepRefusal, NextValuePost, allValid, laterPlain, endsValid, decodeOf, Decodes, encodeFrom, encodeList, writtenFrom, written}
-use Rattle.lists.proofs.ValueLaws.{decided, mark-sparse, below-mark, plain-valid, valid-plain, marked-valid, valid-index, valid-low, valid-lt}
+use Rattle.lists.specs.Lists.{gapAnswer, gapOf, GapPost, gapRefusal, refusedHere, before, sumsOf, stepOf, stepRefusal, NextValuePost, allValid, noPlain, laterPlain, endsValid, decodeOf, Decodes, encodeFrom, encodeList, writtenFrom, written}
+use Rattle.lists.proofs.ValueLaws.{decided, mark-64, mark-index, plain-end-mark, least-le, above-mark, small-valid, valid-plain, valid-index, valid-fits, marked-near, marked-fitting, valid-lt}
 
 -- ---- a gap
 
@@ -72,34 +73,34 @@ or-left false b e = refl
 
 -- What is refused where it is read, by the code's questions.
 module _ (p s last v : ℕ) where
-  pub refused-less : v < last → true ≡ refusedHere p s last v
-  refused-less h = sym (ap (λ (t : Bool). t || (marked p s v && ltb (65 - s) (v % 64))) (lt-ltb v last h))
+  abbrev unfit : Bool
+  unfit = not (markedRankFits p s v)
 
-  by-rank : last ≤ v → (marked p s v && ltb (65 - s) (v % 64)) ≡ refusedHere p s last v
-  by-rank h = sym (ap (λ (t : Bool). t || (marked p s v && ltb (65 - s) (v % 64))) (le-ltb v last h))
+  pub refused-less : v < last → true ≡ refusedHere p s last v
+  refused-less h = sym (ap (λ (t : Bool). t || (marked p s v && unfit)) (lt-ltb v last h))
+
+  by-rank : last ≤ v → (marked p s v && unfit) ≡ refusedHere p s last v
+  by-rank h = sym (ap (λ (t : Bool). t || (marked p s v && unfit)) (le-ltb v last h))
 
   pub refused-plain : last ≤ v → marked p s v ≡ false → false ≡ refusedHere p s last v
-  refused-plain h m = sym (ap (λ (t : Bool). t && ltb (65 - s) (v % 64)) m) ∙ by-rank h
+  refused-plain h m = sym (ap (λ (t : Bool). t && unfit) m) ∙ by-rank h
 
-  pub refused-rank : last ≤ v → marked p s v ≡ true → ltb (65 - s) (v % 64) ≡ refusedHere p s last v
-  refused-rank h m = sym (ap (λ (t : Bool). t && ltb (65 - s) (v % 64)) m) ∙ by-rank h
+  pub refused-rank : last ≤ v → marked p s v ≡ true → unfit ≡ refusedHere p s last v
+  refused-rank h m = sym (ap (λ (t : Bool). t && unfit) m) ∙ by-rank h
 
   -- What is not.
   not-less : refusedHere p s last v ≡ false → last ≤ v
-  not-less e = ltb-false v last (or-left (ltb v last) (marked p s v && ltb (65 - s) (v % 64)) e)
+  not-less e = ltb-false v last (or-left (ltb v last) (marked p s v && unfit) e)
 
-  rank-fits : refusedHere p s last v ≡ false → marked p s v ≡ true → v % 64 ≤ 65 - s
-  rank-fits e m = ltb-false (65 - s) (v % 64) (refused-rank (not-less e) m ∙ e)
+  rank-fits : refusedHere p s last v ≡ false → marked p s v ≡ true → markedRankFits p s v ≡ true
+  rank-fits e m = not-false (markedRankFits p s v) (refused-rank (not-less e) m ∙ e)
 
   valid-taken : last ≤ v → valid p s v ≡ true → refusedHere p s last v ≡ false
   valid-taken h t =
-      ⊎-elim (λ (m : marked p s v ≡ true). sym (refused-rank h m) ∙ le-ltb (65 - s) (v % 64) (valid-low p s v m t))
+      ⊎-elim (λ (m : marked p s v ≡ true). sym (refused-rank h m) ∙ ap not (valid-fits p s v m t))
       (λ (m : marked p s v ≡ false). sym (refused-plain h m)) (decided (marked p s v))
 
 -- ---- all values valid, from two of them
-
-pub small-valid : (p s v : ℕ) → v < 2 ^ s → valid p s v ≡ true
-small-valid p s v h = plain-valid p s v (below-mark p s v (omega (arith, mark-sparse p s))) h
 
 pub all-append : (p s : ℕ) (a b : List ℕ) → allValid p s (a ++ b) ≡ (allValid p s a && allValid p s b)
 unfolding allValid
@@ -110,65 +111,72 @@ all-more : (p s : ℕ) (vs : List ℕ) (v : ℕ) → allValid p s (vs ++ (v ∷ 
 unfolding allValid
 all-more p s vs v = all-append p s vs (v ∷ []) ∙ ap (λ (t : Bool). allValid p s vs && t) (and-true (valid p s v))
 
--- Of values that do not descend, and of which none was refused where it was read: the last one, and the last with the mark bit clear, or 0
--- where there is none. Where these two are valid, all are: no plain value is above the last one, and no marked one's index.
+-- Of values that do not descend, and of which none was refused where it was read: the last one, or 0, and the last with the mark bit clear, or `noPlain`. They
+-- decide for all: no plain value is above that one, and no index above that of the last.
 pub record Checked (p s : ℕ) (vs : List ℕ) (last plain : ℕ) : Type 0 where
-  pub below : plain ≤ last
-  pub clear : marked p s last ≡ false → last ≡ plain
-  pub low : marked p s last ≡ true → last % 64 ≤ 65 - s
+  pub below : (valid p s plain ≡ true) ⊎ (plain ≤ last)
   pub ends : endsValid p s plain last ≡ allValid p s vs
 
-checked-none : (p s : ℕ) → Checked p s [] 0 0
+-- Its low six bits are 1, which is a rank at every pair.
+none-valid : (p s : ℕ) → Pair p s → valid p s (noPlain p s) ≡ true
+none-valid p s pair =
+    let one : (mark p s + 1) % 64 ≡ 1 = omega (arith, mark-64 p s) in
+    marked-near p s (mark p s + 1) (above-mark p s 1 (omega (arith, mark-index p s, pow-pos p))) (omega (arith, pow-pos p))
+    ∙ both (le-leb (leastMarkedRank p s) ((mark p s + 1) % 64) (omega (arith, least-le p s))) (le-leb ((mark p s + 1) % 64) (65 - s) (omega (arith, pair .top)))
+
+checked-none : (p s : ℕ) → Pair p s → Checked p s [] 0 (noPlain p s)
 unfolding allValid
-checked-none p s =
+checked-none p s pair =
     record {
-      below = omega arith;
-      clear = λ e. refl;
-      low = λ e. omega arith;
-      ends = both (small-valid p s 0 (pow-pos s)) (small-valid p s 0 (pow-pos s));
+      below = inl (none-valid p s pair);
+      ends = both (none-valid p s pair) (lt-ltb 0 (markedEnd p s) (omega (arith, pow-pos p)));
     }
 
--- The middle one of three follows from the others.
-middle : (a b c : Bool) → (a ≡ true → c ≡ true → b ≡ true) → (a && c) ≡ ((a && b) && c)
-middle true b c f = sym (absorbed b c (f refl))
+-- The middle one of three follows from the last.
+middle : (a b c : Bool) → (c ≡ true → b ≡ true) → (a && c) ≡ ((a && b) && c)
+middle true b c f = sym (absorbed b c f)
 middle false b c f = refl
 
+-- What follows from the first of two adds nothing.
+implied : (a b : Bool) → (a ≡ true → b ≡ true) → (a && b) ≡ a
+implied true b f = f refl
+implied false b f = refl
+
 module _ {p s : ℕ} {vs : List ℕ} {last plain : ℕ} (c : Checked p s vs last plain) (v : ℕ) (here : refusedHere p s last v ≡ false) where
-  -- What comes before a valid value with the mark bit clear is below 2^s, as that is.
-  before-plain : (w : ℕ) → w ≤ last → marked p s v ≡ false → valid p s v ≡ true → valid p s w ≡ true
-  before-plain w h m t = small-valid p s w (omega (arith, valid-plain p s v m t, not-less p s last v here))
-
-  before-marked : marked p s v ≡ true → valid p s plain ≡ true → valid p s v ≡ true → valid p s last ≡ true
-  before-marked m e t =
-      ⊎-elim
-      (λ (g : marked p s last ≡ true).
-      marked-valid p s last g (omega (arith, valid-index p s v m t, not-less p s last v here)) (c .low g))
-      (λ (g : marked p s last ≡ false). subst (λ (x : ℕ). valid p s x ≡ true) (sym (c .clear g)) e) (decided (marked p s last))
-
   -- The two of one value more decide, where those before do.
   ends-more : (q : ℕ) → endsValid p s q v ≡ (endsValid p s plain last && valid p s v) → endsValid p s q v ≡ allValid p s (vs ++ (v ∷ []))
   ends-more q e = e ∙ ap (λ (t : Bool). t && valid p s v) (c .ends) ∙ sym (all-more p s vs v)
 
+  -- What comes before a valid value with the mark bit clear is below the end of the plain values, as that is.
+  before-plain : marked p s v ≡ false → valid p s v ≡ true → endsValid p s plain last ≡ true
+  before-plain m t =
+      let h = valid-plain p s v m t in
+      let le = not-less p s last v here in
+      both
+      (⊎-elim (λ (e : valid p s plain ≡ true). e) (λ (l : plain ≤ last). small-valid p s plain (omega arith)) (c .below)) (lt-ltb last (markedEnd p s) (omega (arith, plain-end-mark p s)))
+
   more-plain : marked p s v ≡ false → Checked p s (vs ++ (v ∷ [])) v v
   more-plain m =
       record {
-        below = omega arith;
-        clear = λ e. refl;
-        low = λ e. absurd (true≢false (sym e ∙ m));
+        below = inr (le-refl v);
         ends =
             ends-more v
-            (absorbed (valid p s v) (valid p s v) (λ t. t)
-            ∙ sym (absorbed (endsValid p s plain last) (valid p s v)
-            (λ (t : valid p s v ≡ true). both (before-plain plain (c .below) m t) (before-plain last (omega arith) m t))));
+            (implied (valid p s v) (ltb v (markedEnd p s))
+            (λ (t : valid p s v ≡ true). lt-ltb v (markedEnd p s) (omega (arith, valid-plain p s v m t, plain-end-mark p s)))
+            ∙ sym (absorbed (endsValid p s plain last) (valid p s v) (before-plain m)));
       }
 
+  -- Of a marked value that was not refused the index alone is open, and the last one is no larger.
   more-marked : marked p s v ≡ true → Checked p s (vs ++ (v ∷ [])) v plain
   more-marked m =
+      let le = not-less p s last v here in
       record {
-        below = omega (arith, c .below, not-less p s last v here);
-        clear = λ e. absurd (true≢false (sym m ∙ e));
-        low = λ e. rank-fits p s last v here m;
-        ends = ends-more plain (middle (valid p s plain) (valid p s last) (valid p s v) (before-marked m));
+        below = ⊎-elim (λ (e : valid p s plain ≡ true). inl e) (λ (l : plain ≤ last). inr (le-trans l le)) (c .below);
+        ends =
+            ends-more plain
+            (ap (λ (t : Bool). valid p s plain && t) (sym (marked-fitting p s v m (rank-fits p s last v here m)))
+            ∙ middle (valid p s plain) (ltb last (markedEnd p s)) (valid p s v)
+            (λ (t : valid p s v ≡ true). lt-ltb last (markedEnd p s) (lt-of-le-of-lt le (valid-index p s v m t))));
       }
 
   checked-more : {q : ℕ} → q ≡ laterPlain p s plain v → Checked p s (vs ++ (v ∷ [])) v q
@@ -300,15 +308,15 @@ pub record Going (p s : ℕ) (bytes vs : List ℕ) (at last plain : ℕ) : Type 
   pub whole : sumsOf p s (length bytes) bytes 0 ≡ joined vs (sumsOf p s bound (drop at bytes) last)
   pub checked : Checked p s vs last plain
 
-pub going-start : (p s : ℕ) (bytes : List ℕ) → Going p s bytes [] 0 0 0
-going-start p s bytes =
+pub going-start : (p s : ℕ) (bytes : List ℕ) → Pair p s → Going p s bytes [] 0 0 (noPlain p s)
+going-start p s bytes pair =
     record {
       bound = length bytes;
       enough = omega arith;
       inside = omega arith;
       fewer = omega arith;
       whole = joined-none (sumsOf p s (length bytes) bytes 0);
-      checked = checked-none p s;
+      checked = checked-none p s pair;
     }
 
 module _ {p s : ℕ} {bytes vs : List ℕ} {at last plain : ℕ} (g : Going p s bytes vs at last plain) where

@@ -13,7 +13,7 @@ use borrow.Author.Tests.{eq-eqb, ne-eqb, eqb-true, eqb-false}
 use Rattle.wire.proofs.BoolLaws.{both, both-true}
 use Rattle.wire.specs.Varints.{varintBytes}
 use Rattle.wire.proofs.VarintLaws.{side, len-last, len-more, len-pos, len-le}
-use Rattle.lists.proofs.ValueLaws.{decided, mark-sparse, below-mark, marked-ge, valid-plain}
+use Rattle.lists.proofs.ValueLaws.{decided, plain-end-mark, below-mark, marked-ge, valid-plain}
 use Rattle.lists.specs.Values.{markBit, mark, marked, valid}
 use Rattle.lists.specs.Sorting.{ascends, insert, sortOf}
 use Rattle.lists.specs.Order.{Ascending, Rising, lastOf}
@@ -47,7 +47,7 @@ marked-group p s v w e =
 pub valid-from-mark : (p s v : ℕ) → valid p s v ≡ true → mark p s ≤ v → marked p s v ≡ true
 valid-from-mark p s v ok h =
     ⊎-elim (λ (e : marked p s v ≡ true). e)
-    (λ (e : marked p s v ≡ false). absurd (let z : ⊥ = omega (arith, valid-plain p s v e ok, mark-sparse p s) in z))
+    (λ (e : marked p s v ≡ false). absurd (let z : ⊥ = omega (arith, valid-plain p s v e ok, plain-end-mark p s) in z))
     (decided (marked p s v))
 
 -- ---- slots
@@ -343,7 +343,7 @@ module _ (p s : ℕ) (a b : List ℕ) where
       Memᴰ·cast
       (⊎-elim
       (λ (f : marked p s x ≡ true).
-      absurd (let z : ⊥ = omega (arith, same, valid-plain p s v e ok, mark-sparse p s, marked-ge p s x f, slot-group p s x .0, mark-groups p s) in z))
+      absurd (let z : ⊥ = omega (arith, same, valid-plain p s v e ok, plain-end-mark p s, marked-ge p s x f, slot-group p s x .0, mark-groups p s) in z))
       (λ (f : marked p s x ≡ false). sym same ∙ slot-plain p s x f) (decided (marked p s x)))
       (k .here)
 

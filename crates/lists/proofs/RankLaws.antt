@@ -4,7 +4,7 @@ use mathlib.Core.Path.{_≡_, refl, sym, ap, ap₂, _∙_, subst}
 use mathlib.Core.Bool.{Bool, true, false, cond, true≢false}
 use mathlib.Core.List.{List, [], _∷_, _++_, List·Memᴰ, List·Memᴰ·head, List·Memᴰ·tail, List·Memᴰ·cases-cons, List·Memᴰ·not-nil, List·Memᴰ·append-cases, Memᴰ·append-left, Memᴰ·append-right, List·Permᴰ, List·Permᴰ·nil, List·Permᴰ·cons, List·Permᴰ·swap, List·Permᴰ·trans}
 use mathlib.Core.Logic.{_⊎_, inl, inr, ⊎-elim}
-use native.Mathlib.Nat.{le-trans, le-of-eq, le-refl, max-comm, max-le, max-zero, zero-max, le-max-left, le-max-right, max-eq-left, max-eq-right, div-one, div-lt-iff-lt-mul, le-antisymm, eq-zero-or-pos}
+use native.Mathlib.Nat.{le-trans, le-of-eq, le-refl, max-comm, max-le, max-zero, zero-max, le-max-left, le-max-right, max-eq-left, max-eq-right, div-one, div-lt-iff-lt-mul, le-antisymm}
 use native.Mathlib.Omega.{arith}
 use lib.ListN.{length, getD, replicate, length-set, length-replicate, getD-replicate, List·getD-eq-default}
 use lib.Seq.{getD-set-same, getD-set-other, ext-getD}
@@ -12,7 +12,7 @@ use lib.Dec.{eqb}
 use lib.Pow.{pow-add, pow-pos, shr-shr, shr-lt}
 use borrow.Author.Tests.{eqb-true, eqb-false, eq-eqb, ne-eqb}
 use Rattle.wire.proofs.VarintLaws.{side}
-use Rattle.lists.proofs.ValueLaws.{decided, register-marked, rank-marked, lowered-register, register-zero, lowered-none, lowered-register-none, lowered-register-twice, lowered-register-mono, lowered-register-le, lowered-le, register-lt, rank-le}
+use Rattle.lists.proofs.ValueLaws.{decided, register-marked, rank-marked, lowered-register, register-zero, lowered-none, lowered-register-none, lowered-register-twice, lowered-register-mono, lowered-register-le, lowered-le, register-lt, rank-le, valid-ranked}
 use Rattle.lists.proofs.MergeLaws.{mark-groups, marked-group, slot-plain, slot-marked, merged-from, merged-has, valid-mem}
 use Rattle.lists.specs.Lists.{slot, merged, allValid}
 use Rattle.lists.specs.Values.{Pair, mark, marked, register, rank, largestRank, loweredRank, loweredRegister}
@@ -564,57 +564,64 @@ registers-twice d e q regs =
     (λ (j : ℕ) (h : j < 2 ^ q).
     le-antisymm (twice-le d e q regs j h) (twice-ge d e q regs j h) ∙ sym (lowered-at (d + e) q regs j h))
 
+-- ---- valid lists
+
+-- Their registers are of p bits, and their ranks fit.
+pub valid-inside : (p s : ℕ) (l : List ℕ) → Pair p s → allValid p s l ≡ true → (v : ℕ) → List·Memᴰ v l → register p s v < 2 ^ p
+valid-inside p s l pair ok v m = register-lt p s v pair (valid-mem p s v l ok m)
+
+pub valid-inside-lower : (p s d q : ℕ) (l : List ℕ) → p ≡ q + d → Pair p s → allValid p s l ≡ true → (v : ℕ) → List·Memᴰ v l → register p s v / 2 ^ d < 2 ^ q
+valid-inside-lower p s d q l e pair ok v m = shr-lt q d (subst (λ (n : ℕ). register p s v < 2 ^ n) e (valid-inside p s l pair ok v m))
+
+pub valid-ranks : (p s : ℕ) (l : List ℕ) → Pair p s → allValid p s l ≡ true → (v : ℕ) → List·Memᴰ v l → rank p s v ≤ largestRank p
+valid-ranks p s l pair ok v m = rank-le p s v pair (valid-mem p s v l ok m)
+
+pub valid-positive : (p s : ℕ) (l : List ℕ) → Pair p s → allValid p s l ≡ true → (v : ℕ) → List·Memᴰ v l → 0 < rank p s v
+valid-positive p s l pair ok v m = valid-ranked p s v pair (valid-mem p s v l ok m) .1
+
 -- ---- a list's registers lowered
 
-module _ (p s d j : ℕ) (l : List ℕ) (inside : (v : ℕ) → List·Memᴰ v l → register p s v < 2 ^ p) where
-  -- Where no listed rank is 0, lowering the values is lowering the registers.
-  list-le : ((v : ℕ) → List·Memᴰ v l → 0 < rank p s v) → rankAtLower p s d j l ≤ loweredAt d 0 (raisedBy p s (zeros p) l) j
-  list-le pos =
+-- Of valid values, whose ranks are all above 0, lowering each is lowering the registers.
+module _ (p s d j : ℕ) (l : List ℕ) (pair : Pair p s) (ok : allValid p s l ≡ true) where
+  list-le : rankAtLower p s d j l ≤ loweredAt d 0 (raisedBy p s (zeros p) l) j
+  list-le =
       le-trans (le-of-eq (lower-peak p s d j l))
       (peak-least (lowerIndex p s d) (lowerRank p s d) j l (loweredAt d 0 (raisedBy p s (zeros p) l) j)
       (λ (v : ℕ) (m : List·Memᴰ v l) (e : lowerIndex p s d v ≡ j).
-      le-trans (le-of-eq (sym (lowered-register d (register p s v) (rank p s v) (pos v m))))
+      le-trans (le-of-eq (sym (lowered-register d (register p s v) (rank p s v) (valid-positive p s l pair ok v m))))
       (le-trans
       (lowered-register-mono d (register p s v) (rank p s v) (rankAt p s (register p s v) l) (rank-upper p s (register p s v) l v m refl))
-      (le-trans (le-of-eq (ap (loweredRegister d (register p s v)) (sym (raised-zeros p s (register p s v) l inside))))
+      (le-trans (le-of-eq (ap (loweredRegister d (register p s v)) (sym (raised-zeros p s (register p s v) l (valid-inside p s l pair ok)))))
       (lowered-upper d j (raisedBy p s (zeros p) l) (register p s v) e)))))
 
-  -- This way round a rank of 0 does no harm: a register of rank 0 stays 0.
-  pub list-ge : loweredAt d 0 (raisedBy p s (zeros p) l) j ≤ rankAtLower p s d j l
+  list-ge : loweredAt d 0 (raisedBy p s (zeros p) l) j ≤ rankAtLower p s d j l
   list-ge =
       lowered-least d j (raisedBy p s (zeros p) l) (rankAtLower p s d j l)
       (λ (k : ℕ) (e : k / 2 ^ d ≡ j).
-      le-trans (le-of-eq (ap (loweredRegister d k) (raised-zeros p s k l inside ∙ rank-peak p s k l)))
+      le-trans (le-of-eq (ap (loweredRegister d k) (raised-zeros p s k l (valid-inside p s l pair ok) ∙ rank-peak p s k l)))
       (⊎-elim
       (λ (z : peak (register p s) (rank p s) k l ≡ 0).
       subst (λ (n : ℕ). n ≤ rankAtLower p s d j l) (sym (ap (loweredRegister d k) z ∙ register-zero d k)) zero-le)
       (λ (b : Best (register p s) (rank p s) k l).
-      le-trans (le-of-eq (ap (loweredRegister d k) (b .best)))
-      (⊎-elim
-      (λ (z : rank p s (b .value) ≡ 0).
-      subst (λ (n : ℕ). n ≤ rankAtLower p s d j l) (sym (ap (loweredRegister d k) z ∙ register-zero d k)) zero-le)
-      (λ (h : 0 < rank p s (b .value)).
       le-trans
       (le-of-eq
-      (lowered-register d k (rank p s (b .value)) h ∙ ap (λ (n : ℕ). loweredRank d n (rank p s (b .value))) (sym (b .index))))
+      (ap (loweredRegister d k) (b .best)
+      ∙ lowered-register d k (rank p s (b .value)) (valid-positive p s l pair ok (b .value) (b .listed))
+      ∙ ap (λ (n : ℕ). loweredRank d n (rank p s (b .value))) (sym (b .index))))
       (le-trans
       (peak-upper (lowerIndex p s d) (lowerRank p s d) j l (b .value) (b .listed) (ap (λ (n : ℕ). n / 2 ^ d) (b .index) ∙ e))
-      (le-of-eq (sym (lower-peak p s d j l))))) (eq-zero-or-pos (rank p s (b .value)))))
+      (le-of-eq (sym (lower-peak p s d j l)))))
       (peak-reached (register p s) (rank p s) k l)))
 
-  pub list-lowered : ((v : ℕ) → List·Memᴰ v l → 0 < rank p s v) → rankAtLower p s d j l ≡ loweredAt d 0 (raisedBy p s (zeros p) l) j
-  list-lowered pos = le-antisymm (list-le pos) list-ge
+  list-lowered : rankAtLower p s d j l ≡ loweredAt d 0 (raisedBy p s (zeros p) l) j
+  list-lowered = le-antisymm list-le list-ge
 
 -- The same of all registers.
-pub raised-lowered : (p s d q : ℕ) (l : List ℕ) → p ≡ q + d → ((v : ℕ) → List·Memᴰ v l → register p s v < 2 ^ p)
-    → ((v : ℕ) → List·Memᴰ v l → 0 < rank p s v) → lowered d q (raisedBy p s (zeros p) l) ≡ raisedLower p s d (zeros q) l
-raised-lowered p s d q l e inside pos =
+pub raised-lowered : (p s d q : ℕ) (l : List ℕ) → p ≡ q + d → Pair p s → allValid p s l ≡ true
+    → lowered d q (raisedBy p s (zeros p) l) ≡ raisedLower p s d (zeros q) l
+raised-lowered p s d q l e pair ok =
     lowered-is d q (raisedBy p s (zeros p) l) (raisedLower p s d (zeros q) l) (lower-length p s d (zeros q) l ∙ length-replicate (2 ^ q) 0)
-    (λ (j : ℕ) (h : j < 2 ^ q).
-    sym (list-lowered p s d j l inside pos)
-    ∙ sym
-    (lower-zeros p s d q j l
-    (λ (v : ℕ) (m : List·Memᴰ v l). shr-lt q d (subst (λ (n : ℕ). register p s v < 2 ^ n) e (inside v m)))))
+    (λ (j : ℕ) (h : j < 2 ^ q). sym (list-lowered p s d j l pair ok) ∙ sym (lower-zeros p s d q j l (valid-inside-lower p s d q l e pair ok)))
 
 -- Raising by a list is the larger of the registers and the list's.
 pub raised-larger : (p s : ℕ) (regs l : List ℕ) → length regs ≡ 2 ^ p → ((v : ℕ) → List·Memᴰ v l → register p s v < 2 ^ p)
@@ -692,18 +699,6 @@ stands-merge p s a b v m =
 -- A merge has the registers of both lists.
 pub rank-merged : (p s j : ℕ) (a b : List ℕ) → rankAt p s j (merged p s a b) ≡ rankAt p s j (a ++ b)
 rank-merged p s j a b = rank-covered p s j (merged p s a b) (a ++ b) (merge-stands p s a b) (stands-merge p s a b)
-
--- ---- valid lists
-
--- Their registers are of p bits, and their ranks fit.
-pub valid-inside : (p s : ℕ) (l : List ℕ) → Pair p s → allValid p s l ≡ true → (v : ℕ) → List·Memᴰ v l → register p s v < 2 ^ p
-valid-inside p s l pair ok v m = register-lt p s v pair (valid-mem p s v l ok m)
-
-pub valid-inside-lower : (p s d q : ℕ) (l : List ℕ) → p ≡ q + d → Pair p s → allValid p s l ≡ true → (v : ℕ) → List·Memᴰ v l → register p s v / 2 ^ d < 2 ^ q
-valid-inside-lower p s d q l e pair ok v m = shr-lt q d (subst (λ (n : ℕ). register p s v < 2 ^ n) e (valid-inside p s l pair ok v m))
-
-pub valid-ranks : (p s : ℕ) (l : List ℕ) → Pair p s → allValid p s l ≡ true → (v : ℕ) → List·Memᴰ v l → rank p s v ≤ largestRank p
-valid-ranks p s l pair ok v m = rank-le p s v pair (valid-mem p s v l ok m)
 
 -- ---- whole rows of registers
 

@@ -1,20 +1,20 @@
 -- Laws of the values of a sparse list: the mark, validity, index, register and rank, and lowering. Of the other law files only MergeLaws unfolds one of
 -- their definitions, the mark, for the groups of 64 values that it makes.
-use Prim.Native.Nat.{ℕ, zero, suc, _+_, _*_, _-_, _/_, _%_, _^_, _<_, _≤_}
-use mathlib.Core.Path.{_≡_, refl, sym, ap, ap₂, _∙_, subst}
-use mathlib.Core.Bool.{Bool, true, false, not, _&&_, true≢false}
+use Prim.Native.Nat.{ℕ, zero, suc, _+_, _*_, _-_, _/_, _%_, _^_, _<_, _≤_, zero-le}
+use mathlib.Core.Path.{_≡_, refl, sym, ap, _∙_, subst}
+use mathlib.Core.Bool.{Bool, true, false, not, _&&_, and-true, true≢false}
 use mathlib.Core.Logic.{_⊎_, inl, inr, ⊎-elim}
-use native.Mathlib.Nat.{add-comm, mod-lt, mod-eq-of-lt, div-eq-of-lt, le-max-left, le-max-right, max-le, mul-le-mul-right, zero-lt-suc}
+use native.Mathlib.Nat.{add-comm, le-refl, mod-lt, mod-eq-of-lt, div-eq-of-lt, le-max-left, le-max-right, max-le, mul-le-mul-right, zero-lt-suc}
 use native.Mathlib.Omega.{arith}
-use lib.Arith.{digits-lt}
+use lib.Arith.{digits-lt, digits-div}
 use lib.Dec.{ltb, leb, eqb}
 use lib.Pow.{pow-pos, pow-mono, pow-lt, pow-add, shl-lt, shl-shr, shr-lt, mod-pow-add}
 use lib.Bits.{bitAnd, and-high, and-mask}
 use lib.Count.{leadingZeros, leading-le, leading-top, leading-length, leading-unique}
-use borrow.Author.Tests.{ltb-true, leb-true, lt-ltb, le-ltb, le-leb, eq-eqb, ne-eqb}
-use Rattle.wire.proofs.BoolLaws.{both, both-true}
+use borrow.Author.Tests.{ltb-true, leb-true, lt-ltb, le-ltb, le-leb, lt-leb, eq-eqb, ne-eqb}
+use Rattle.wire.proofs.BoolLaws.{both, both-true, whichever}
 use Rattle.wire.proofs.VarintLaws.{side}
-use Rattle.lists.specs.Values.{markBit, mark, marked, valid, sparseIndex, register, plainRank, rank, largestRank, loweredRank, loweredRegister, Pair, NewPost, IndexPost, RankPost}
+use Rattle.lists.specs.Values.{markBit, mark, marked, plainEnd, markedEnd, leastMarkedRank, markedRankFits, valid, sparseIndex, register, plainRank, rank, largestRank, loweredRank, loweredRegister, Pair, NewPost, IndexPost, RankPost}
 
 -- ---- tests
 
@@ -47,7 +47,7 @@ bit-test v k =
 -- ---- the mark
 
 module _ (p s : ℕ) where
-  pub mark-sparse : 2 ^ s ≤ mark p s
+  mark-sparse : 2 ^ s ≤ mark p s
   unfolding mark
   mark-sparse = pow-mono (le-max-left s (p + 6))
 
@@ -73,6 +73,35 @@ module _ (p s : ℕ) where
   unfolding mark
   mark-shl pair = omega (arith, mark-le pair)
 
+  -- ---- the ends of the plain and of the marked values, and the least low six bits of a marked one
+
+  pub plain-end-none : s ≡ p → plainEnd p s ≡ 0
+  unfolding plainEnd
+  plain-end-none e = rw (eq-eqb s p e)
+
+  pub plain-end-some : (s ≡ p → ⊥) → plainEnd p s ≡ 2 ^ s
+  unfolding plainEnd
+  plain-end-some n = rw (ne-eqb s p n)
+
+  pub plain-end-le : plainEnd p s ≤ 2 ^ s
+  unfolding plainEnd
+  plain-end-le = whichever (λ (n : ℕ). n ≤ 2 ^ s) (eqb s p) 0 (2 ^ s) zero-le (le-refl (2 ^ s))
+
+  pub plain-end-mark : plainEnd p s ≤ mark p s
+  plain-end-mark = omega (arith, plain-end-le, mark-sparse)
+
+  pub least-one : s ≡ p → leastMarkedRank p s ≡ 1
+  unfolding leastMarkedRank
+  least-one e = rw (eq-eqb s p e)
+
+  pub least-none : (s ≡ p → ⊥) → leastMarkedRank p s ≡ 0
+  unfolding leastMarkedRank
+  least-none n = rw (ne-eqb s p n)
+
+  pub least-le : leastMarkedRank p s ≤ 1
+  unfolding leastMarkedRank
+  least-le = whichever (λ (n : ℕ). n ≤ 1) (eqb s p) 1 0 (le-refl 1) zero-le
+
 module _ (p s v : ℕ) where
   -- The code's test of the mark.
   pub marked-test : not (eqb (bitAnd v (mark p s)) 0) ≡ marked p s v
@@ -83,45 +112,70 @@ module _ (p s v : ℕ) where
   unfolding marked
   below-mark h = ne-eqb (v / mark p s % 2) 1 (λ (e : v / mark p s % 2 ≡ 1). omega (arith, div-eq-of-lt h))
 
+  pub above-mark : v < mark p s → marked p s (mark p s + v) ≡ true
+  unfolding marked
+  above-mark h =
+      eq-eqb ((mark p s + v) / mark p s % 2) 1
+      (ap (λ (k : ℕ). k % 2)
+      (ap (λ (n : ℕ). n / mark p s) (let e : mark p s + v ≡ 1 * mark p s + v = omega arith in e) ∙ digits-div 1 h))
+
   pub marked-ge : marked p s v ≡ true → mark p s ≤ v
   marked-ge e = ⊎-elim (λ (h : v < mark p s). absurd (true≢false (sym e ∙ below-mark h))) (λ (h : mark p s ≤ v). h) (side v (mark p s))
 
   -- ---- validity
 
-  pub plain-is : marked p s v ≡ false → valid p s v ≡ ltb v (2 ^ s)
+  pub plain-is : marked p s v ≡ false → valid p s v ≡ ltb v (plainEnd p s)
   unfolding valid
   plain-is e = rw e
 
-  pub marked-is : marked p s v ≡ true → valid p s v ≡ (ltb v (mark p s + 64 * 2 ^ p) && leb (v % 64) (65 - s))
+  marked-is : marked p s v ≡ true → valid p s v ≡ (ltb v (markedEnd p s) && markedRankFits p s v)
   unfolding valid
   marked-is e = rw e
 
-  pub plain-valid : marked p s v ≡ false → v < 2 ^ s → valid p s v ≡ true
-  plain-valid e h = plain-is e ∙ lt-ltb v (2 ^ s) h
+  plain-valid : marked p s v ≡ false → v < plainEnd p s → valid p s v ≡ true
+  plain-valid e h = plain-is e ∙ lt-ltb v (plainEnd p s) h
 
-  pub valid-plain : marked p s v ≡ false → valid p s v ≡ true → v < 2 ^ s
-  valid-plain e t = ltb-true v (2 ^ s) (sym (plain-is e) ∙ t)
+  pub small-valid : v < plainEnd p s → valid p s v ≡ true
+  small-valid h = plain-valid (below-mark (omega (arith, plain-end-mark p s))) h
 
-  pub marked-valid : marked p s v ≡ true → v < mark p s + 64 * 2 ^ p → v % 64 ≤ 65 - s → valid p s v ≡ true
-  marked-valid e h l = marked-is e ∙ both (lt-ltb v (mark p s + 64 * 2 ^ p) h) (le-leb (v % 64) (65 - s) l)
+  pub valid-plain : marked p s v ≡ false → valid p s v ≡ true → v < plainEnd p s
+  valid-plain e t = ltb-true v (plainEnd p s) (sym (plain-is e) ∙ t)
 
-  pub valid-index : marked p s v ≡ true → valid p s v ≡ true → v < mark p s + 64 * 2 ^ p
-  valid-index e t = ltb-true v (mark p s + 64 * 2 ^ p) (both-true _ (leb (v % 64) (65 - s)) (sym (marked-is e) ∙ t) .0)
+  -- The low six bits of a marked value: from the least ones to 65 - s.
+  rank-range : markedRankFits p s v ≡ true → (leastMarkedRank p s ≤ v % 64) × (v % 64 ≤ 65 - s)
+  rank-range t =
+      let b = both-true (leb (leastMarkedRank p s) (v % 64)) (leb (v % 64) (65 - s)) t in
+      (leb-true (leastMarkedRank p s) (v % 64) (b .0), leb-true (v % 64) (65 - s) (b .1))
 
-  pub valid-low : marked p s v ≡ true → valid p s v ≡ true → v % 64 ≤ 65 - s
-  valid-low e t = leb-true (v % 64) (65 - s) (both-true (ltb v (mark p s + 64 * 2 ^ p)) _ (sym (marked-is e) ∙ t) .1)
+  module _ (e : marked p s v ≡ true) where
+    module _ (t : valid p s v ≡ true) where
+      pub valid-index : v < markedEnd p s
+      valid-index = ltb-true v (markedEnd p s) (both-true _ (markedRankFits p s v) (sym (marked-is e) ∙ t) .0)
 
-  -- What the code asks of a marked value, one question after the other.
-  pub marked-far : marked p s v ≡ true → mark p s + 64 * 2 ^ p ≤ v → valid p s v ≡ false
-  marked-far e h = marked-is e ∙ ap (λ (t : Bool). t && leb (v % 64) (65 - s)) (le-ltb v (mark p s + 64 * 2 ^ p) h)
+      pub valid-fits : markedRankFits p s v ≡ true
+      valid-fits = both-true (ltb v (markedEnd p s)) _ (sym (marked-is e) ∙ t) .1
 
-  pub marked-near : marked p s v ≡ true → v < mark p s + 64 * 2 ^ p → valid p s v ≡ leb (v % 64) (65 - s)
-  marked-near e h = marked-is e ∙ ap (λ (t : Bool). t && leb (v % 64) (65 - s)) (lt-ltb v (mark p s + 64 * 2 ^ p) h)
+      valid-low : v % 64 ≤ 65 - s
+      valid-low = rank-range valid-fits .1
+
+      valid-least : leastMarkedRank p s ≤ v % 64
+      valid-least = rank-range valid-fits .0
+
+    -- What the code asks of a marked value, one question after the other.
+    pub marked-far : markedEnd p s ≤ v → valid p s v ≡ false
+    marked-far h = marked-is e ∙ ap (λ (t : Bool). t && markedRankFits p s v) (le-ltb v (markedEnd p s) h)
+
+    pub marked-near : v < markedEnd p s → valid p s v ≡ markedRankFits p s v
+    marked-near h = marked-is e ∙ ap (λ (t : Bool). t && markedRankFits p s v) (lt-ltb v (markedEnd p s) h)
+
+    -- Where the low six bits are a rank, the index alone is open.
+    pub marked-fitting : markedRankFits p s v ≡ true → valid p s v ≡ ltb v (markedEnd p s)
+    marked-fitting t = marked-is e ∙ ap (λ (b : Bool). ltb v (markedEnd p s) && b) t ∙ and-true (ltb v (markedEnd p s))
 
   pub valid-lt : Pair p s → valid p s v ≡ true → v < 2 ^ 31
   valid-lt pair t =
       ⊎-elim (λ (e : marked p s v ≡ true). omega (arith, valid-index e t, mark-index p s, mark-le p s pair))
-      (λ (e : marked p s v ≡ false). omega (arith, valid-plain e t, mark-sparse p s, mark-lt p s pair)) (decided (marked p s v))
+      (λ (e : marked p s v ≡ false). omega (arith, valid-plain e t, plain-end-mark p s, mark-lt p s pair)) (decided (marked p s v))
 
   -- ---- index and register
 
@@ -161,7 +215,7 @@ module _ (p s v : ℕ) where
       subst (λ (x : ℕ). x < 2 ^ s) (sym (sparse-marked e))
       (subst (λ (k : ℕ). (v - mark p s) / 64 * 2 ^ (s - p) < 2 ^ k) (let f : p + (s - p) ≡ s = omega (arith, pair .above) in f)
       (shl-lt p (s - p) (index-lt e t))))
-      (λ (e : marked p s v ≡ false). subst (λ (x : ℕ). x < 2 ^ s) (sym (sparse-plain e)) (valid-plain e t)) (decided (marked p s v))
+      (λ (e : marked p s v ≡ false). omega (arith, sparse-plain e, valid-plain e t, plain-end-le p s)) (decided (marked p s v))
 
   pub register-lt : Pair p s → valid p s v ≡ true → register p s v < 2 ^ p
   register-lt pair t =
@@ -208,37 +262,12 @@ masked-zeros v k h =
 
 -- ---- ranks
 
-pub plain-rank-zero : plainRank 0 0 ≡ 1
+plain-rank : (bits v : ℕ) → plainRank bits v ≡ 1 + leadingZeros bits (v % 2 ^ bits)
 unfolding plainRank
-plain-rank-zero = refl
+plain-rank bits v = refl
 
-pub plain-rank-none : (v : ℕ) → 0 < v → plainRank 0 v ≡ 1 + leadingZeros 64 v
-unfolding plainRank
-plain-rank-none v h = rw (ne-eqb v 0 (λ (e : v ≡ 0). omega arith))
-
-pub plain-rank-bits : (bits v : ℕ) → 0 < bits → plainRank bits v ≡ 1 + leadingZeros bits (v % 2 ^ bits)
-unfolding plainRank
-plain-rank-bits bits v h = rw (ne-eqb bits 0 (λ (e : bits ≡ 0). omega arith))
-
--- The rank with no bits.
-none-pos : (v : ℕ) → 1 ≤ plainRank 0 v
-none-pos zero = omega (arith, plain-rank-zero)
-none-pos (suc v) = omega (arith, plain-rank-none (suc v) (zero-lt-suc v))
-
-none-le : (v : ℕ) → v < 2 ^ 64 → plainRank 0 v ≤ 64
-none-le zero h = omega (arith, plain-rank-zero)
-none-le (suc v) h = omega (arith, plain-rank-none (suc v) (zero-lt-suc v), leading-lt 64 (suc v) (zero-lt-suc v) h)
-
-pub plain-rank-pos : (bits v : ℕ) → 1 ≤ plainRank bits v
-plain-rank-pos zero v = none-pos v
-plain-rank-pos (suc bits) v = omega (arith, plain-rank-bits (suc bits) v (zero-lt-suc bits))
-
-pub plain-rank-le : (bits v : ℕ) → 0 < bits → plainRank bits v ≤ 1 + bits
-plain-rank-le bits v h = omega (arith, plain-rank-bits bits v h, leading-le bits (v % 2 ^ bits))
-
-pub plain-rank-most : (bits v : ℕ) → bits ≤ 21 → v < 2 ^ 64 → plainRank bits v ≤ 64
-plain-rank-most zero v h l = none-le v l
-plain-rank-most (suc bits) v h l = omega (arith, plain-rank-le (suc bits) v (zero-lt-suc bits))
+plain-rank-le : (bits v : ℕ) → plainRank bits v ≤ 1 + bits
+plain-rank-le bits v = omega (arith, plain-rank bits v, leading-le bits (v % 2 ^ bits))
 
 module _ (p s v : ℕ) where
   pub rank-plain : marked p s v ≡ false → rank p s v ≡ plainRank (s - p) v
@@ -249,29 +278,28 @@ module _ (p s v : ℕ) where
   unfolding rank
   rank-marked e = rw e
 
-  pub rank-plain-pos : marked p s v ≡ false → 1 ≤ rank p s v
-  rank-plain-pos e = subst (λ (r : ℕ). 1 ≤ r) (sym (rank-plain e)) (plain-rank-pos (s - p) v)
-
   module _ (pair : Pair p s) (t : valid p s v ≡ true) where
-    marked-rank-le : marked p s v ≡ true → rank p s v ≤ 65 - p
-    marked-rank-le e = omega (arith, rank-marked e, valid-low p s v e t, pair .above, pair .top)
-
     pub rank-le : rank p s v ≤ largestRank p
     rank-le =
-        ⊎-elim (λ (e : marked p s v ≡ true). omega (arith, marked-rank-le e))
-        (λ (e : marked p s v ≡ false).
-        omega (
-          arith,
-          rank-plain e,
-          plain-rank-most (s - p) v (omega (arith, pair .low, pair .top)) (omega (arith, valid-lt p s v pair t)),
-          pair .high,
-        )) (decided (marked p s v))
+        ⊎-elim (λ (e : marked p s v ≡ true). omega (arith, rank-marked e, valid-low p s v e t, pair .above, pair .top))
+        (λ (e : marked p s v ≡ false). omega (arith, rank-plain e, plain-rank-le (s - p) v, pair .above, pair .top)) (decided (marked p s v))
 
-    pub rank-zero : rank p s v ≡ 0 → (marked p s v ≡ true) × (v % 64 ≡ 0) × (s ≡ p)
-    rank-zero z =
-        ⊎-elim
-        (λ (e : marked p s v ≡ true). (e, (let a : v % 64 ≡ 0 = omega (arith, rank-marked e) in a), (let a : s ≡ p = omega (arith, rank-marked e, pair .above) in a)))
-        (λ (e : marked p s v ≡ false). absurd (let a : ⊥ = omega (arith, rank-plain-pos e) in a)) (decided (marked p s v))
+    -- "Every value is marked when no bits lie between the precisions" (U3), and no rank is 0.
+    equal-marked : s ≡ p → marked p s v ≡ true
+    equal-marked e =
+        ⊎-elim (λ (m : marked p s v ≡ true). m)
+        (λ (m : marked p s v ≡ false). absurd (let z : ⊥ = omega (arith, valid-plain p s v m t, plain-end-none p s e) in z)) (decided (marked p s v))
+
+    marked-positive : marked p s v ≡ true → 0 < rank p s v
+    marked-positive e =
+        ⊎-elim (λ (h : p < s). omega (arith, rank-marked e))
+        (λ (h : s ≤ p). omega (arith, rank-marked e, valid-least p s v e t, least-one p s (let f : s ≡ p = omega (arith, pair .above) in f))) (side p s)
+
+    pub valid-ranked : (s ≡ p → marked p s v ≡ true) × (0 < rank p s v)
+    valid-ranked = (
+      equal-marked,
+      ⊎-elim marked-positive (λ (e : marked p s v ≡ false). omega (arith, rank-plain e, plain-rank (s - p) v)) (decided (marked p s v)),
+    )
 
 -- ---- lowering
 
@@ -393,27 +421,28 @@ new-post p s bit pair e =
       sparse = refl;
     }
 
--- The mark is `flag` there.
-module _ {p s flag : ℕ} (v : ℕ) (pair : Pair p s) (f : flag ≡ mark p s) where
-  pub code-marked : not (eqb (bitAnd v flag) 0) ≡ marked p s v
-  code-marked = subst (λ (m : ℕ). not (eqb (bitAnd v m) 0) ≡ marked p s v) (sym f) (marked-test p s v)
+-- The ends of the plain and of the marked values. The mark is `flag` there.
+module _ {p s flag : ℕ} (pair : Pair p s) (f : flag ≡ mark p s) where
+  pub code-plain-end : (s ≡ p → ⊥) → (1 * 2 ^ s) % 2 ^ 32 ≡ plainEnd p s
+  code-plain-end n = one-shl s (let h : s < 32 = omega (arith, pair .top) in h) ∙ sym (plain-end-some p s n)
 
-  -- The end of the marked values.
-  pub code-end : flag + (64 * 2 ^ p) % 2 ^ 32 ≡ mark p s + 64 * 2 ^ p
+  pub code-end : flag + (64 * 2 ^ p) % 2 ^ 32 ≡ markedEnd p s
   code-end = omega (arith, mark-index p s, mark-le p s pair)
 
   pub code-end-fits : flag + (64 * 2 ^ p) % 2 ^ 32 < 2 ^ 32
   code-end-fits = omega (arith, code-end, mark-index p s, mark-le p s pair)
 
-  pub code-plain : marked p s v ≡ false → ltb v ((1 * 2 ^ s) % 2 ^ 32) ≡ valid p s v
-  code-plain e =
-      ap (ltb v) (one-shl s (let h : s < 32 = omega (arith, pair .top) in h)) ∙ sym (plain-is p s v e)
+-- What the code asks of the low six bits.
+module _ (p s v : ℕ) {least : ℕ} (e : least ≡ leastMarkedRank p s) where
+  pub rank-below : v % 64 < least → false ≡ markedRankFits p s v
+  rank-below h = sym (ap (λ (t : Bool). t && leb (v % 64) (65 - s)) (lt-leb (leastMarkedRank p s) (v % 64) (omega arith)))
 
-  pub code-far : marked p s v ≡ true → flag + (64 * 2 ^ p) % 2 ^ 32 ≤ v → false ≡ valid p s v
-  code-far e h = sym (marked-far p s v e (subst (λ (x : ℕ). x ≤ v) code-end h))
+  pub rank-above : least ≤ v % 64 → leb (v % 64) (65 - s) ≡ markedRankFits p s v
+  rank-above h = sym (ap (λ (t : Bool). t && leb (v % 64) (65 - s)) (le-leb (leastMarkedRank p s) (v % 64) (omega arith)))
 
-  pub code-near : marked p s v ≡ true → v < flag + (64 * 2 ^ p) % 2 ^ 32 → leb (v % 64) (65 - s) ≡ valid p s v
-  code-near e h = sym (marked-near p s v e (subst (λ (x : ℕ). v < x) code-end h))
+module _ {p s flag : ℕ} (v : ℕ) (pair : Pair p s) (f : flag ≡ mark p s) where
+  pub code-marked : not (eqb (bitAnd v flag) 0) ≡ marked p s v
+  code-marked = subst (λ (m : ℕ). not (eqb (bitAnd v m) 0) ≡ marked p s v) (sym f) (marked-test p s v)
 
   pub code-ge : marked p s v ≡ true → flag ≤ v
   code-ge e = omega (arith, marked-ge p s v e)
@@ -446,16 +475,6 @@ module _ {p s : ℕ} (v r : ℕ) (pair : Pair p s) (t : valid p s v ≡ true) wh
   rank-marked-post e h =
       rank-post (h ∙ (let g : v % 64 + s - p ≡ v % 64 + (s - p) = omega (arith, pair .above) in g) ∙ sym (rank-marked p s v e))
 
-module _ (bits v : ℕ) where
-  pub code-none : bits ≡ 0 → v ≡ 0 → 1 ≡ plainRank bits v
-  code-none e z = sym (ap₂ plainRank e z ∙ plain-rank-zero)
-
-  pub code-whole : bits ≡ 0 → (v ≡ 0 → ⊥) → leadingZeros 64 v + 1 ≡ plainRank bits v
-  code-whole e n =
-      add-comm (leadingZeros 64 v) 1
-      ∙ sym (plain-rank-none v (⊎-elim (λ (h : 0 < v). h) (λ (h : v ≤ 0). absurd (n (let z : v ≡ 0 = omega arith in z))) (side 0 v)))
-      ∙ ap (λ (b : ℕ). plainRank b v) (sym e)
-
 -- The code's leading zeros of the low k bits.
 abbrev pub zeros32 : ℕ → ℕ → ℕ
 zeros32 v k = leadingZeros 32 (bitAnd v ((1 * 2 ^ k) % 2 ^ 32 - 1))
@@ -470,10 +489,8 @@ module _ (v k : ℕ) (h : k < 32) where
   zeros32-is : zeros32 v k + k - 31 ≡ 1 + leadingZeros k (v % 2 ^ k)
   zeros32-is = omega (arith, masked-zeros v k h)
 
-  pub code-bits : (k ≡ 0 → ⊥) → zeros32 v k + k - 31 ≡ plainRank k v
-  code-bits n =
-      zeros32-is
-      ∙ sym (plain-rank-bits k v (⊎-elim (λ (l : 0 < k). l) (λ (l : k ≤ 0). absurd (n (let z : k ≡ 0 = omega arith in z))) (side 0 k)))
+  pub code-bits : zeros32 v k + k - 31 ≡ plainRank k v
+  code-bits = zeros32-is ∙ sym (plain-rank k v)
 
   pub code-lowered-zero : (r : ℕ) → bitAnd v ((1 * 2 ^ k) % 2 ^ 32 - 1) ≡ 0 → r + k ≡ loweredRank k v r
   code-lowered-zero r e = sym (lowered-zero k v r (sym (masked v k h) ∙ e))

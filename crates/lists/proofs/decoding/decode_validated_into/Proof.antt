@@ -1,7 +1,8 @@
 -- The values stored so far and those of the rest make up the list (`Going`), and the two values that the loop keeps decide for all of them. The
 -- cells past those values are as they were.
 use Prim.Native.Nat.{_≤_, _-_}
-use mathlib.Core.Path.{_≡_, refl}
+use mathlib.Core.Path.{_≡_, refl, sym, subst}
+use mathlib.Core.List.{[]}
 use mathlib.Core.Bool.{true, false}
 use native.Mathlib.Omega.{arith}
 use lib.ListN.{length, take, drop, length-set}
@@ -19,8 +20,14 @@ Inv-loop bytes enc out₀ at₀ k₀ last₀ plain₀ out at k last plain = Goin
 abbrev μ-loop : tie.MeasureT-loop
 μ-loop bytes enc out₀ at₀ k₀ last₀ plain₀ out at k last plain = length bytes - at
 
+no-plain-requires : tie.Need-no-plain-requires Inv-loop μ-loop
+no-plain-requires c κs = search needs
+
 loop-holds : tie.Need-loop-holds Inv-loop μ-loop
-loop-holds c = (going-start _ _ _, refl, c .before .before .pre .1, refl, omega arith)
+loop-holds c =
+    let o = c .before .before .before in
+    let e = o .args .enc in
+    (subst (Going (e .«normal_precision») (e .«sparse_precision») (now (o .args .bytes)) [] 0 0) (sym (c .no-plain .ensures)) (going-start _ _ _ (o .pre .0 .pair)), refl, o .pre .1, refl, omega arith)
 
 next-value-requires : tie.Need-next-value-requires Inv-loop μ-loop
 next-value-requires c κs = search needs
@@ -68,7 +75,7 @@ loop-again c =
       going-stored (l .out) (l .k) (c .before .before .r .given .0 .0) (search needs) (going-next (i .0) (c .before .before .before .before .before .loop-test .taken) a (c .later-plain .ensures)),
       simp length-set (i .1),
       i .2,
-      past-set (l .k) (l .out) (now (c .before .before .before .before .before .before .before .before .before .args .out)) (c .before .before .r .given .0 .0) (i .3),
+      past-set (l .k) (l .out) (now (c .before .before .before .before .before .before .before .before .before .before .args .out)) (c .before .before .r .given .0 .0) (i .3),
       omega (arith, i .4, a .inside .0),
     )
 
@@ -103,6 +110,7 @@ decode-validated-into-spec =
     (tie.spec
     Inv-loop
     μ-loop
+    no-plain-requires
     loop-holds
     next-value-requires
     enum-known-r

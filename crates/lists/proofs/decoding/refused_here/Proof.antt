@@ -1,5 +1,6 @@
--- The definition's two questions, one after the other: a smaller sum, and low six bits above 65 - s where the mark bit is set.
-use mathlib.Core.Path.{sym, _∙_}
+-- The definition's two questions, one after the other: a smaller sum, and low six bits that are no rank where the mark bit is set.
+use mathlib.Core.Path.{sym, ap, _∙_}
+use mathlib.Core.Bool.{not}
 use borrow.Author.Tests.{not-true, not-false}
 use borrow.Author.Needs.{needs}
 use Rattle.lists.proofs.DecodingLaws.{refused-less, refused-plain, refused-rank}
@@ -20,15 +21,16 @@ returns-2 c =
     refused-plain (o .args .enc .«normal_precision») (o .args .enc .«sparse_precision») (o .args .last) (o .args .v) (c .before .before .if1 .left)
     (sym (c .before .is-rho-encoded .ensures) ∙ not-true _ (c .if2 .taken))
 
-sub-result : tie.Need-sub-result
-sub-result c = search needs
+marked-rank-fits-requires : tie.Need-marked-rank-fits-requires
+marked-rank-fits-requires c κs = search needs
 
 returns-3 : tie.Need-returns-3
 returns-3 c =
     let o = c .before .before .before .before in
-    refused-rank (o .args .enc .«normal_precision») (o .args .enc .«sparse_precision») (o .args .last) (o .args .v) (c .before .before .before .if1 .left)
+    ap not (c .marked-rank-fits .ensures)
+    ∙ refused-rank (o .args .enc .«normal_precision») (o .args .enc .«sparse_precision») (o .args .last) (o .args .v) (c .before .before .before .if1 .left)
     (sym (c .before .before .is-rho-encoded .ensures) ∙ not-false _ (c .before .if2 .left))
 
 pub refused-here-spec : {M : Type 1} → statement M
 refused-here-spec =
-    tie.close (tie.spec returns is-rho-encoded-requires returns-2 sub-result returns-3)
+    tie.close (tie.spec returns is-rho-encoded-requires returns-2 marked-rank-fits-requires returns-3)
