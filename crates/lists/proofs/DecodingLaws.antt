@@ -118,8 +118,8 @@ pub record Checked (p s : ℕ) (vs : List ℕ) (last plain : ℕ) : Type 0 where
   pub ends : endsValid p s plain last ≡ allValid p s vs
 
 -- Its low six bits are 1, which is a rank at every pair.
-none-valid : (p s : ℕ) → Pair p s → valid p s (noPlain p s) ≡ true
-none-valid p s pair =
+no-plain-valid : (p s : ℕ) → Pair p s → valid p s (noPlain p s) ≡ true
+no-plain-valid p s pair =
     let one : (mark p s + 1) % 64 ≡ 1 = omega (arith, mark-64 p s) in
     marked-near p s (mark p s + 1) (above-mark p s 1 (omega (arith, mark-index p s, pow-pos p))) (omega (arith, pow-pos p))
     ∙ both (le-leb (leastMarkedRank p s) ((mark p s + 1) % 64) (omega (arith, least-le p s))) (le-leb ((mark p s + 1) % 64) (65 - s) (omega (arith, pair .top)))
@@ -128,8 +128,8 @@ checked-none : (p s : ℕ) → Pair p s → Checked p s [] 0 (noPlain p s)
 unfolding allValid
 checked-none p s pair =
     record {
-      below = inl (none-valid p s pair);
-      ends = both (none-valid p s pair) (lt-ltb 0 (markedEnd p s) (omega (arith, pow-pos p)));
+      below = inl (no-plain-valid p s pair);
+      ends = both (no-plain-valid p s pair) (lt-ltb 0 (markedEnd p s) (omega (arith, pow-pos p)));
     }
 
 -- The middle one of three follows from the last.

@@ -4,14 +4,13 @@ use Prim.Native.Nat.{ℕ, _+_, _-_, _^_, _<_, _≤_, min}
 use mathlib.Core.Path.{_≡_, refl, sym, ap, ap₂, _∙_, subst}
 use mathlib.Core.Bool.{Bool, cond}
 use mathlib.Core.Logic.{⊎-elim}
-use mathlib.Core.List.{List, [], _∷_, map, List·Memᴰ, List·Memᴰ·head, List·Memᴰ·tail, List·Memᴰ·cases-cons, List·Memᴰ·not-nil, Memᴰ·of-map}
+use mathlib.Core.List.{List, [], _∷_, map, List·Memᴰ, List·Memᴰ·cases-cons, List·Memᴰ·not-nil, Memᴰ·of-map}
 use native.Mathlib.Nat.{min-le-left, min-le-right, le-of-eq}
 use native.Mathlib.Omega.{arith}
 use lib.Bits.{bitAnd}
 use lib.ListN.{length}
 use borrow.Author.Tests.{eq-eqb, ne-eqb}
 use Rattle.wire.specs.State.{State}
-use Rattle.lists.specs.Values.{rank}
 use Rattle.lists.specs.Registers.{larger, lowered}
 use Rattle.lists.proofs.RankLaws.{lowered-length, registers-larger, registers-twice}
 use Rattle.rollup.specs.declared.accumulator.Accumulator.{Accumulator}
@@ -20,7 +19,7 @@ use Rattle.rollup.specs.Accumulator.{Mem, fresh, isStarted}
 use Rattle.rollup.specs.Header.{dataOf, maskOf}
 use Rattle.rollup.specs.Adding.{stateNumbers}
 use Rattle.rollup.specs.Stages.{TakePre}
-use Rattle.rollup.specs.Calls.{Call, added, wrote, moved, Moved, Steps, begun, adding, writing, moving, Run, accepted, stateIn, valuesIn, states, registersIn, over, smallestPrecision, smallestSparsePrecision, commonBits, largestRegisters, rollupRegisters, Answered, NoZeroRank, Agrees, DemandThree, OrderFree}
+use Rattle.rollup.specs.Calls.{Call, added, wrote, moved, Moved, Steps, begun, adding, writing, moving, Run, accepted, stateIn, valuesIn, states, registersIn, over, smallestPrecision, smallestSparsePrecision, commonBits, largestRegisters, rollupRegisters, Answered, DemandThree, OrderFree}
 use Rattle.rollup.specs.Taking.{signedMin, unchanged, Shows}
 use Rattle.rollup.proofs.TakeLaws.{ready-takes}
 use Rattle.rollup.proofs.ViewLaws.{IsRefused, IsAccepted, add-view, run-fits, sparse-small}
@@ -63,26 +62,6 @@ lower-all q q′ h st sts low =
     ap (λ (k : ℕ). lowered (q - q′) q′ (lowered (p - q) k (registersIn s))) (let e : q ≡ q′ + (q - q′) = omega arith in e)
     ∙ registers-twice (p - q) (q - q′) q′ (registersIn s)
     ∙ ap (λ (d : ℕ). lowered d q′ (registersIn s)) (let e : p - q + (q - q′) ≡ p - q′ = omega arith in e))
-
--- ---- the premise, where it is needed
-
--- A state whose list is lowered, its precision being above the smallest, lists no value of rank 0.
-abbrev pub Ranked : List State → State → Type 0
-Ranked sts st =
-    smallestPrecision sts < st .hll .precision → (v : ℕ) → List·Memᴰ v (valuesIn st) → 0 < rank (st .hll .precision) (st .hll .sparsePrecision) v
-
-abbrev pub AllRanked : List State → Type 0
-AllRanked sts = (st : State) → List·Memᴰ st sts → Ranked sts st
-
-smallest-down : (st : State) (sts : List State) (s : State) → List·Memᴰ s sts → smallestPrecision (st ∷ sts) ≤ smallestPrecision sts
-smallest-down st [] s i = absurd (List·Memᴰ·not-nil i)
-smallest-down st (last ∷ sts) s i =
-    let e = over-more 0 min (λ (x : State). x .hll .precision) st last sts in
-    let h = min-le-left (smallestPrecision (last ∷ sts)) (st .hll .precision) in
-    omega arith
-
-fewer-ranked : (st : State) (sts : List State) → AllRanked (st ∷ sts) → AllRanked sts
-fewer-ranked st sts f s i h = f s (List·Memᴰ·tail i) (let d = smallest-down st sts s i in omega arith)
 
 -- ---- what holds all along
 
@@ -129,9 +108,9 @@ module _ (room : ℕ) (bytes : List ℕ) (a : Accumulator) (m : Mem) (r : Added)
   taken : TakePre a m room (stateNumbers st vs) (dataOf st) vs
   taken = ready-takes (x .ready)
 
-  grows : (sts : List State) → Ranked (st ∷ sts) st → Stands sts a m → Stands (st ∷ sts) (r .head) n
+  grows : (sts : List State) → Stands sts a m → Stands (st ∷ sts) (r .head) n
   unfolding largestRegisters registersIn
-  grows [] pos e =
+  grows [] e =
       let t = first-took a m room (stateNumbers st vs) (dataOf st) vs taken (r .head) n (ap (λ (h : Accumulator). h .form) e) (x .shows) in
       let one = over-one 0 min (λ (s : State). s .hll .precision) st in
       record {
@@ -145,13 +124,13 @@ module _ (room : ℕ) (bytes : List ℕ) (a : Accumulator) (m : Mem) (r : Added)
             (over-one [] larger (at (smallestPrecision (st ∷ []))) st
             ∙ lowered-here p (smallestPrecision (st ∷ [])) (registersIn st) one (taken-length a m room (stateNumbers st vs) (dataOf st) vs taken));
       }
-  grows (last ∷ sts) pos s =
+  grows (last ∷ sts) s =
       let q = smallestPrecision (last ∷ sts) in
       let q′ = smallestPrecision (st ∷ last ∷ sts) in
       let next : q′ ≡ min q p = over-more 0 min (λ (s : State). s .hll .precision) st last sts in
       let down : q′ ≤ q = (let h = min-le-left q p in omega arith) in
       let same : min (a .precision) p ≡ q′ = ap (λ (k : ℕ). min k p) (s .precision) ∙ sym next in
-      let t = more-took a m room (stateNumbers st vs) (dataOf st) vs taken (r .head) n (s .started) (λ (h : min (a .precision) p < p). pos (subst (λ (k : ℕ). k < p) same h)) (x .shows) in
+      let t = more-took a m room (stateNumbers st vs) (dataOf st) vs taken (r .head) n (s .started) (x .shows) in
       record {
         started = t .started;
         precision = t .precision ∙ same;
@@ -195,30 +174,24 @@ accepted-moved : (calls : List Call) → accepted (moved ∷ calls) ≡ accepted
 unfolding accepted
 accepted-moved calls = refl
 
-abbrev Positive : List (List ℕ) → Type 0
-Positive bs = AllRanked (map stateIn bs)
-
-stands : {first : Mem} {calls : List Call} {a : Accumulator} {m : Mem} → Run first calls a m → AllRanked (states calls) → Stands (states calls) a m
-stands {first = m} begun pos = subst (λ (bs : List (List ℕ)). Stands (map stateIn bs) fresh m) (sym accepted-none) refl
-stands (adding {calls = calls} {a = a} {m = m} room bytes r n run post) pos =
+stands : {first : Mem} {calls : List Call} {a : Accumulator} {m : Mem} → Run first calls a m → Stands (states calls) a m
+stands {first = m} begun = subst (λ (bs : List (List ℕ)). Stands (map stateIn bs) fresh m) (sym accepted-none) refl
+stands (adding {calls = calls} {a = a} {m = m} room bytes r n run post) =
     ⊎-elim
     (λ (x : IsRefused a m r n).
     let e = accepted-no room bytes (r .answer) calls (x .number) in
     subst (λ (bs : List (List ℕ)). Stands (map stateIn bs) (r .head) n) (sym e)
-    (stays (states calls) a m (r .head) n (x .same) (stands run (subst Positive e pos))))
+    (stays (states calls) a m (r .head) n (x .same) (stands run)))
     (λ (x : IsAccepted a m room bytes r n).
     let e = accepted-yes room bytes (r .answer) calls (x .none) in
-    let pos′ : Positive (bytes ∷ accepted calls) = subst Positive e pos in
-    subst (λ (bs : List (List ℕ)). Stands (map stateIn bs) (r .head) n) (sym e)
-    (grows room bytes a m r n x (states calls) (pos′ (stateIn bytes) (List·Memᴰ·head refl))
-    (stands run (fewer-ranked (stateIn bytes) (states calls) pos′)))) (add-view a m room bytes r n (run-fits run) post)
-stands (writing {calls = calls} {a = a} {m = m} room out r n after run post) pos =
+    subst (λ (bs : List (List ℕ)). Stands (map stateIn bs) (r .head) n) (sym e) (grows room bytes a m r n x (states calls) (stands run))) (add-view a m room bytes r n (run-fits run) post)
+stands (writing {calls = calls} {a = a} {m = m} room out r n after run post) =
     let e = accepted-wrote room out (r .answer) calls in
     subst (λ (bs : List (List ℕ)). Stands (map stateIn bs) a n) (sym e)
-    (stays (states calls) a m a n (post .same) (stands run (subst Positive e pos)))
-stands (moving {calls = calls} {a = a} {m = m} n run post) pos =
+    (stays (states calls) a m a n (post .same) (stands run))
+stands (moving {calls = calls} {a = a} {m = m} n run post) =
     let e = accepted-moved calls in
-    subst (λ (bs : List (List ℕ)). Stands (map stateIn bs) a n) (sym e) (moves (states calls) a m n post (stands run (subst Positive e pos)))
+    subst (λ (bs : List (List ℕ)). Stands (map stateIn bs) a n) (sym e) (moves (states calls) a m n post (stands run))
 
 answered : {a₀ : Accumulator} {m₀ : Mem} {calls : List Call} {a : Accumulator} {m : Mem} (steps : Steps a₀ m₀ calls a m) → Answered steps
 unfolding Answered
@@ -247,10 +220,10 @@ compared [] a m e =
     }
 compared (st ∷ sts) a m t = record { precision = t .precision; sparse-precision = t .sparse-precision; mask = t .mask; registers = t .registers }
 
--- The premise is asked only of states that are lowered: where all have one precision, of none.
-pub agrees : (first : Mem) (calls : List Call) (a : Accumulator) (m : Mem) (run : Run first calls a m) → AllRanked (states calls) → Agrees first calls a m run
-agrees first calls a m run pos =
-    let s = stands run pos in
+pub demand-three : DemandThree
+unfolding DemandThree
+demand-three first calls a m run =
+    let s = stands run in
     let c = compared (states calls) a m s in
     record {
       answers = answered run;
@@ -261,23 +234,18 @@ agrees first calls a m run pos =
       registers = c .registers;
     }
 
-pub demand-three : DemandThree
-unfolding DemandThree NoZeroRank
-demand-three first calls a m run pos =
-    agrees first calls a m run (λ (s : State) (i : List·Memᴰ s (states calls)) (h : smallestPrecision (states calls) < s .hll .precision). pos s i)
-
 -- ---- the order is free
 
 all-small : (c : List (List ℕ)) (s : State) → List·Memᴰ s (map stateIn c) → s .hll .sparsePrecision < 2 ^ 32
 all-small c s i = let w = Memᴰ·of-map stateIn c i in subst (λ (x : State). x .hll .sparsePrecision < 2 ^ 32) (w .2) (sparse-small (w .0))
 
 pub order-free : OrderFree
-unfolding OrderFree DemandThree NoZeroRank largestRegisters
-order-free first first′ c d a b m n run run′ pos set =
+unfolding OrderFree DemandThree largestRegisters
+order-free first first′ c d a b m n run run′ set =
     let there = set .there in
     let back = set .back in
-    let x = demand-three first c a m run pos in
-    let y = demand-three first′ d b n run′ (λ (s : State) (i : List·Memᴰ s (states d)). pos s (back s i)) in
+    let x = demand-three first c a m run in
+    let y = demand-three first′ d b n run′ in
     let q = smallestPrecision (states c) in
     let low : q ≡ smallestPrecision (states d) =
     over-set Any 0 min (λ (s : State). s .hll .precision) min-joins (states c) (states d) there back (λ (s : State) (i : List·Memᴰ s (states c)). tt) in

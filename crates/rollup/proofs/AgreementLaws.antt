@@ -5,18 +5,17 @@ use Prim.Native.Nat.{ℕ, _+_, _-_, _^_, _<_, _≤_, max, min}
 use mathlib.Core.Path.{_≡_, refl, sym, ap, ap₂, _∙_, subst}
 use mathlib.Core.Bool.{Bool, true, false, cond}
 use mathlib.Core.Logic.{⊎-elim}
-use mathlib.Core.List.{List, [], _++_, append-assoc, append-nil, List·Memᴰ, List·Permᴰ}
+use mathlib.Core.List.{List, [], _++_, append-assoc, append-nil, List·Permᴰ}
 use native.Mathlib.Nat.{min-le-right, min-eq-left, le-of-eq}
 use native.Mathlib.Omega.{arith}
 use lib.Dec.{ltb}
 use lib.ListN.{length, replicate}
 use Rattle.wire.proofs.BoolLaws.{either}
-use Rattle.wire.proofs.VarintLaws.{side}
-use Rattle.lists.specs.Values.{Pair, rank}
+use Rattle.lists.specs.Values.{Pair}
 use Rattle.lists.specs.Lists.{allValid, written, merged}
 use Rattle.lists.specs.Registers.{registersOf, zeros, rankAt, raisedBy, raisedLower, larger, lowered}
 use Rattle.lists.proofs.MergeLaws.{valid-append, merged-valid}
-use Rattle.lists.proofs.RankLaws.{rank-append, rank-perm, rank-merged, zeros-raised, raised-append, raised-larger, raised-lowered, lower-none, lower-larger, larger-length, lowered-length, registers-same, valid-inside, valid-inside-lower, row-raised, row-same}
+use Rattle.lists.proofs.RankLaws.{rank-append, rank-perm, rank-merged, zeros-raised, raised-append, raised-larger, raised-lowered, lower-larger, larger-length, lowered-length, registers-same, valid-inside, valid-inside-lower, row-raised, row-same}
 use Rattle.lists.proofs.RegisterLaws.{of-with, of-front}
 use Rattle.rollup.specs.declared.accumulator.Form.{Form}
 use Rattle.rollup.specs.declared.accumulator.Form.the-variants.{Unstarted, Sparse, Dense}
@@ -310,7 +309,7 @@ module _ (a : Accumulator) (m : Mem) (room : ℕ) (x : Incoming) (row vs : List 
 
     -- ---- a dense roll-up
 
-    module _ (dense : a .form ≡ Dense) (pos : least < p → (v : ℕ) → List·Memᴰ v vs → 0 < rank p s v) where
+    module _ (dense : a .form ≡ Dense) where
       abbrev low : List ℕ
       low = lowered (a .precision - least) least (registersOf (a .precision) (m .registers))
 
@@ -320,23 +319,14 @@ module _ (a : Accumulator) (m : Mem) (room : ℕ) (x : Incoming) (row vs : List 
       split : p ≡ least + (p - least)
       split = omega (arith, min-le-right (a .precision) p)
 
-      -- Values, each lowered, raise as their registers lowered do. Here no value may have rank 0, unless nothing is lowered.
+      -- Values, each lowered, raise as their registers lowered do.
       by-list : isEmpty row ≡ true → raisedLower p s (p - least) low vs ≡ larger low (lowered (p - least) least regs)
       by-list e =
           let pair = pre .pair (no-data row e) in
-          let inside = valid-inside p s vs pair (pre .all) in
           let rows : regs ≡ raisedBy p s (zeros p) vs = in-list e ∙ list-row p s pair vs (pre .all) in
-          ⊎-elim
-          (λ (h : least < p).
           lower-larger p s (p - least) least low vs low-long (valid-inside-lower p s (p - least) least vs split pair (pre .all))
           ∙ ap (larger low)
-          (sym (raised-lowered p s (p - least) least vs split inside (pos h)) ∙ ap (lowered (p - least) least) (sym rows)))
-          (λ (h : p ≤ least).
-          let same : least ≡ p = omega (arith, min-le-right (a .precision) p) in
-          ap (λ (d : ℕ). raisedLower p s d low vs) (let z : p - least ≡ 0 = omega arith in z)
-          ∙ lower-none p s low vs
-          ∙ raised-larger p s low vs (low-long ∙ ap (λ (k : ℕ). 2 ^ k) same) inside
-          ∙ ap (larger low) (sym (lowered-here p least regs same taken-length ∙ rows))) (side least p)
+          (sym (raised-lowered p s (p - least) least vs split pair (pre .all)) ∙ ap (lowered (p - least) least) (sym rows))
 
       by-either : raisedTo least x row vs low ≡ larger low (lowered (p - least) least regs)
       by-either =
@@ -361,10 +351,10 @@ module _ (a : Accumulator) (m : Mem) (room : ℕ) (x : Incoming) (row vs : List 
         → Took (x .precision) (x .«sparse_precision») (x .mask) (takenRegisters x row vs) r n
     first-took f sh = start-took f (subst (λ (g : Form). Shows (takenAfter g a m x row vs) r n) f sh)
 
-    pub more-took : isStarted (a .form) ≡ true → (least < p → (v : ℕ) → List·Memᴰ v vs → 0 < rank p s v) → Shows (takenAfter (a .form) a m x row vs) r n → More
-    more-took t pos = by-form (a .form) refl t
+    pub more-took : isStarted (a .form) ≡ true → Shows (takenAfter (a .form) a m x row vs) r n → More
+    more-took t = by-form (a .form) refl t
       where
         by-form : (f : Form) → a .form ≡ f → isStarted f ≡ true → Shows (takenAfter f a m x row vs) r n → More
         by-form Unstarted e t = absurd (let z : _≡_ {A = ℕ} 0 1 = cc in omega arith)
         by-form Sparse e t = sparse-took e
-        by-form Dense e t = dense-took e pos
+        by-form Dense e t = dense-took e

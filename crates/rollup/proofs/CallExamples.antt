@@ -6,7 +6,7 @@ use mathlib.Core.Logic.{⊎-elim}
 use mathlib.Core.List.{List, [], _∷_, List·Memᴰ, List·Memᴰ·head, List·Memᴰ·tail, List·Memᴰ·cases-cons, List·Memᴰ·not-nil, List·Permᴰ·nil}
 use Rattle.wire.specs.Varints.{varintBytes}
 use Rattle.wire.specs.State.{State}
-use Rattle.lists.specs.Values.{mark, marked, valid}
+use Rattle.lists.specs.Values.{mark, marked, plainEnd, valid}
 use Rattle.lists.specs.Sorting.{ascends}
 use Rattle.lists.specs.Lists.{allValid, writtenFrom, written}
 use Rattle.rollup.specs.declared.accumulator.Form.the-variants.{Sparse, Dense}
@@ -27,5 +27,5 @@ same-turned room x y = record { there = turned room x y; back = turned room y x 
 
 -- The list 1 of (4,10) in one cell, and the same in two, with a register byte and a cell for values that wait.
 pub moved-longer : Moved (listHead 15 0 1 4 10 1 1 1 0) (mem [] (1 ∷ []) []) (mem (7 ∷ []) (1 ∷ 9 ∷ []) (5 ∷ []))
-unfolding fits countsFit listsFit allValid valid mark marked ascends written writtenFrom varintBytes
+unfolding fits countsFit listsFit allValid valid plainEnd mark marked ascends written writtenFrom varintBytes
 moved-longer = record { kept = refl; waiting = List·Permᴰ·nil; registers = λ (e : Sparse ≡ Dense). cc; fit = refl }

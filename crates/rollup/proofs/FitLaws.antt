@@ -200,9 +200,9 @@ module _ (bytes : List ℕ) (want p : ℕ) (e : want ≡ registerBytes p) where
   pub few-bytes : length bytes < want → false ≡ registersFit p bytes
   few-bytes h = sym (both-no (leb (largest (registersOf p bytes)) (largestRank p)) (lt-leb (registerBytes p) (length bytes) (omega arith)))
 
-  pub enough-bytes : (most : ℕ) → most ≡ largest (registersOf p bytes) → want ≤ length bytes → leb most (largestRank p) ≡ registersFit p bytes
-  enough-bytes most f h =
-      ap (λ (n : ℕ). leb n (largestRank p)) f
+  pub enough-bytes : (most top : ℕ) → most ≡ largest (registersOf p bytes) → top ≡ largestRank p → want ≤ length bytes → leb most top ≡ registersFit p bytes
+  enough-bytes most top f g h =
+      ap₂ leb f g
       ∙ sym (both-yes (leb (largest (registersOf p bytes)) (largestRank p)) (le-leb (registerBytes p) (length bytes) (omega arith)))
 
 -- ---- all of it, taken apart and put together

@@ -17,7 +17,7 @@ use Rattle.wire.specs.Layout.{CutReading, cut-refused, cut-before-hll}
 use Rattle.wire.specs.declared.state.Fields.{Fields}
 use Rattle.wire.specs.declared.state.Parsed.{Parsed}
 use Rattle.wire.specs.declared.state.Parsed.the-variants.{Read as StateRead, Refused as StateRefused}
-use Rattle.lists.specs.Values.{Pair, NewPost}
+use Rattle.lists.specs.Values.{Pair, NewPost, largestRank}
 use Rattle.lists.specs.Lists.{decodeOf, Decodes}
 use Rattle.lists.specs.Registers.{registerBytes, registersOf, largest, Holds}
 use Rattle.lists.specs.declared.values.Sparse.{Sparse as Encoding}
@@ -32,7 +32,7 @@ use Rattle.rollup.specs.declared.accumulator.Accumulator.{Accumulator}
 use Rattle.rollup.specs.declared.judging.Judged.{Judged}
 use Rattle.rollup.specs.declared.judging.Judged.the-variants.{State as JudgedState, Refused}
 use Rattle.rollup.specs.Accumulator.{Mem, normalRange, sparseRange, isStarted}
-use Rattle.rollup.specs.Header.{ask, firstNo, dataOf, listOf, isEmpty, isValueType, maskOf, stateType, stateVersion, kindAnswer, listHasPrecision, dataHasLength, needsPair, pairInRange, structureAnswer, topRank, registersInRange, headerAnswer, passing, readHeader}
+use Rattle.rollup.specs.Header.{ask, firstNo, dataOf, listOf, isEmpty, isValueType, maskOf, stateType, stateVersion, kindAnswer, listHasPrecision, dataHasLength, needsPair, pairInRange, structureAnswer, registersInRange, headerAnswer, passing, readHeader}
 use Rattle.rollup.specs.Adding.{masksMeet, hasField, hasBoth, samePair, carried, matchAnswer, judge, judgeAnswer, wantedPrecision, wantedRegisters, wantedCells, hasRoom, listedIn}
 use Rattle.rollup.specs.Taking.{commonMask}
 use Rattle.rollup.specs.Judging.{judgedMeans, JudgedInside, HeaderPost, JudgePost, parsedRefusal, RoomPre, ListedPre}
@@ -258,7 +258,7 @@ module _ (st : State) (e : structureAnswer st ≡ 0) where
         let z : length (dataOf st) ≡ 0 = sym (ap length same) ∙ h in
         let l : largest (dataOf st) ≤ 0 =
         largest-least (dataOf st) 0 (λ (j : ℕ) (k : j < length (dataOf st)). absurd (let y : ⊥ = omega arith in y)) in
-        sym (le-leb _ _ (let y : largest (dataOf st) ≤ topRank (st .hll .precision) = omega arith in y))
+        sym (le-leb _ _ (let y : largest (dataOf st) ≤ largestRank (st .hll .precision) = omega arith in y))
 
     module _ (some-data : length d ≡ 0 → ⊥) where
       data-size : length d ≡ 2 ^ st .hll .precision
@@ -270,9 +270,8 @@ module _ (st : State) (e : structureAnswer st ≡ 0) where
       pub data-holds : Holds (st .hll .precision) d
       data-holds = record { high = data-high; room = row-holds (st .hll .precision) d data-size }
 
-      pub registers-some : (r : ℕ) → r ≡ largest (registersOf (st .hll .precision) d) → leb r (topRank (st .hll .precision)) ≡ registersInRange st
-      registers-some r h =
-          ap (λ (n : ℕ). leb n (topRank (st .hll .precision))) (h ∙ ap largest (row-registers (st .hll .precision) d data-size ∙ same))
+      pub registers-some : (r top : ℕ) → r ≡ largest (registersOf (st .hll .precision) d) → top ≡ largestRank (st .hll .precision) → leb r top ≡ registersInRange st
+      registers-some r top h g = ap₂ leb (h ∙ ap largest (row-registers (st .hll .precision) d data-size ∙ same)) g
 
 -- ---- 2 to 14
 
@@ -438,7 +437,7 @@ pub record JudgedFacts (a : Accumulator) (st : State) : Type 0 where
   pub sparse : 0 < st .hll .sparsePrecision
   -- Data, where there is any.
   pub size : 0 < length (dataOf st) → length (dataOf st) ≡ 2 ^ st .hll .precision
-  pub registers : largest (dataOf st) ≤ topRank (st .hll .precision)
+  pub registers : largest (dataOf st) ≤ largestRank (st .hll .precision)
   pub alone : 0 < length (dataOf st) → st .hll .sparseData ≡ none
   -- No data: a list, or neither.
   pub pair : length (dataOf st) ≡ 0 → Pair (st .hll .precision) (st .hll .sparsePrecision)

@@ -8,7 +8,7 @@ use Rattle.wire.specs.Varints.{varintOf, varint64}
 use Rattle.wire.specs.Fields.{tagOf, bytesOf, delimitedOf, skipOf, fieldsOf, messageOf}
 use Rattle.wire.specs.State.{hllField, readHll, outerField, readState}
 use Rattle.wire.specs.Layout.{pastField, nestedLastIn, nestedLast}
-use Rattle.lists.specs.Values.{mark, marked, valid}
+use Rattle.lists.specs.Values.{mark, marked, plainEnd, leastMarkedRank, valid}
 use Rattle.lists.specs.Lists.{gapOf, stepOf, sumsOf, allValid, decodeOf}
 use Rattle.lists.specs.Registers.{registerBytes, largest}
 use Rattle.rollup.specs.declared.accumulator.Accumulator.{Accumulator}
@@ -39,7 +39,7 @@ nestedAtEnd =
     ∷ 0x82 ∷ 0x07 ∷ 0x0c ∷ 0x10 ∷ 0x02 ∷ 0x18 ∷ 0x0a ∷ 0x20 ∷ 0x0f ∷ 0x32 ∷ 0x04 ∷ 0x21 ∷ 0xe2 ∷ 0x80 ∷ 0x04 ∷ []
 
 pub covered : (nestedLast nestedAtEnd ≡ true) × (outcome nestedAtEnd .answer ≡ 0)
-unfolding nestedLast nestedLastIn pastField tagOf skipOf delimitedOf bytesOf varint64 varintOf addOutcome fits judge readHeader headerAnswer structureAnswer kindAnswer matchAnswer hasRoom readState readHll messageOf fieldsOf outerField hllField largest registerBytes gapOf stepOf sumsOf decodeOf allValid valid mark marked
+unfolding nestedLast nestedLastIn pastField tagOf skipOf delimitedOf bytesOf varint64 varintOf addOutcome fits judge readHeader headerAnswer structureAnswer kindAnswer matchAnswer hasRoom readState readHll messageOf fieldsOf outerField hllField largest registerBytes gapOf stepOf sumsOf decodeOf allValid valid plainEnd leastMarkedRank mark marked
 covered = (refl, refl)
 
 -- The same fields with value type and count behind the nested message. Without its last two bytes it is accepted too, and the count is lost.
@@ -53,5 +53,5 @@ pub not-covered :
     (nestedLast countBehind ≡ false)
     × (outcome countBehind .answer ≡ 0) × (countAfter countBehind ≡ 2)
     × (outcome (take 21 countBehind) .answer ≡ 0) × (countAfter (take 21 countBehind) ≡ 0)
-unfolding nestedLast nestedLastIn pastField tagOf skipOf delimitedOf bytesOf varint64 varintOf addOutcome fits judge readHeader headerAnswer structureAnswer kindAnswer matchAnswer hasRoom readState readHll messageOf fieldsOf outerField hllField largest registerBytes gapOf stepOf sumsOf decodeOf allValid valid mark marked startAfter
+unfolding nestedLast nestedLastIn pastField tagOf skipOf delimitedOf bytesOf varint64 varintOf addOutcome fits judge readHeader headerAnswer structureAnswer kindAnswer matchAnswer hasRoom readState readHll messageOf fieldsOf outerField hllField largest registerBytes gapOf stepOf sumsOf decodeOf allValid valid plainEnd leastMarkedRank mark marked startAfter
 not-covered = (refl, refl, refl, refl, refl)

@@ -10,7 +10,7 @@ use Rattle.wire.specs.State.{State}
 use Rattle.wire.specs.Varints.{varintBytes}
 use Rattle.wire.specs.Encoding.{numberField, int32Unless, lengthPrefix, bytesField, hllNumbers, hllBytes, outerNumbers, encodeOf, Output, encodeStep}
 use Rattle.wire.specs.Examples.{Example, sameBytes, allHold, varintExamples, varint-examples-hold}
-use Rattle.lists.specs.Values.{mark, marked, valid}
+use Rattle.lists.specs.Values.{mark, marked, plainEnd, valid}
 use Rattle.lists.specs.Sorting.{ascends}
 use Rattle.lists.specs.Lists.{allValid, encodeFrom, encodeList, writtenFrom, written}
 use Rattle.lists.specs.Registers.{largest}
@@ -74,7 +74,7 @@ writeExamples =
     ∷ []
 
 pub write-examples-hold : allHold writeExamples ≡ true
-unfolding writeOutcome fits countsFit listsFit flushed currentSize stateForm belowLimit allValid valid mark marked ascends written writtenFrom encodeList encodeFrom encodeStep encodeOf outerNumbers hllBytes hllNumbers bytesField lengthPrefix int32Unless numberField varintBytes
+unfolding writeOutcome fits countsFit listsFit flushed currentSize stateForm belowLimit allValid valid plainEnd mark marked ascends written writtenFrom encodeList encodeFrom encodeStep encodeOf outerNumbers hllBytes hllNumbers bytesField lengthPrefix int32Unless numberField varintBytes
 write-examples-hold = refl
 
 -- ---- all of them

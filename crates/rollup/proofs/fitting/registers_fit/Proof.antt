@@ -13,17 +13,14 @@ returns c = few-bytes (c .before .before .before .args .registers .now) (c .befo
 largest-register-requires : tie.Need-largest-register-requires
 largest-register-requires c κs = search needs
 
-cast-most : tie.Need-cast-most
-cast-most c = search needs
-
-sub-result : tie.Need-sub-result
-sub-result c = search needs
+largest-rank-requires : tie.Need-largest-rank-requires
+largest-rank-requires c κs = search needs
 
 returns-2 : tie.Need-returns-2
 returns-2 c =
-    let o = c .before .before .before .before in
-    enough-bytes (o .args .registers .now) (c .before .before .register-bytes .result) (o .args .p) (c .before .before .register-bytes .ensures .0) (c .largest-register .result)
-    (c .largest-register .ensures) (c .before .if1 .left)
+    let o = c .before .before .before .before .before in
+    enough-bytes (o .args .registers .now) (c .before .before .before .register-bytes .result) (o .args .p) (c .before .before .before .register-bytes .ensures .0) (c .before .largest-register .result) (c .largest-rank .result)
+    (c .before .largest-register .ensures) (c .largest-rank .ensures) (c .before .before .if1 .left)
 
 pub registers-fit-spec : {M : Type 1} → statement M
 registers-fit-spec =
@@ -32,6 +29,5 @@ registers-fit-spec =
     register-bytes-requires
     returns
     largest-register-requires
-    cast-most
-    sub-result
+    largest-rank-requires
     returns-2)

@@ -1,5 +1,4 @@
 -- Data that passed 12 is 2^p bytes, so that its largest register is its largest byte; no data has none above 0.
-use native.Mathlib.Omega.{arith}
 use borrow.Author.Needs.{needs}
 use denote.Ref.{now}
 use Rattle.wire.specs.State.{stateOf}
@@ -22,23 +21,19 @@ largest-register-requires c κs =
     let st = stateOf (now (o .args .bytes)) (o .args .f) in
     data-holds st (o .pre) (now (c .before .«data» .result)) (c .before .«data» .ensures) (c .if1 .left)
 
-cast-result : tie.Need-cast-result
-cast-result c = search needs
-
-sub-result : tie.Need-sub-result
-sub-result c =
-    let o = c .before .before .before .before .before .before in
-    let h = data-high (stateOf (now (o .args .bytes)) (o .args .f)) (o .pre) in
-    omega arith
+largest-rank-requires : tie.Need-largest-rank-requires
+largest-rank-requires c κs =
+    let o = c .before .before .before .before .before in
+    data-high (stateOf (now (o .args .bytes)) (o .args .f)) (o .pre)
 
 returns-2 : tie.Need-returns-2
 returns-2 c =
     let o = c .before .before .before .before .before .before in
     let st = stateOf (now (o .args .bytes)) (o .args .f) in
     registers-some st (o .pre) (now (c .before .before .before .«data» .result)) (c .before .before .before .«data» .ensures)
-    (c .before .before .if1 .left) (c .before .largest-register .result) (c .before .largest-register .ensures)
+    (c .before .before .if1 .left) (c .before .largest-register .result) (c .largest-rank .result) (c .before .largest-register .ensures) (c .largest-rank .ensures)
 
 pub registers-in-range-spec : {M : Type 1} → statement M
 registers-in-range-spec =
     tie.close
-    (tie.spec data-requires returns largest-register-requires cast-result sub-result returns-2)
+    (tie.spec data-requires returns largest-register-requires largest-rank-requires returns-2)
