@@ -65,7 +65,11 @@ pub(crate) fn marked_end(enc: Sparse) -> u32
 fn least_marked_rank(enc: Sparse) -> u32
     ensures { λ r. ⌜ r ≡ leastMarkedRank (enc .«normal_precision») (enc .«sparse_precision») ⌝ }
 {
-    if enc.sparse_precision == enc.normal_precision { 1 } else { 0 }
+    if enc.sparse_precision == enc.normal_precision {
+        1
+    } else {
+        0
+    }
 }
 
 // Whether the low six bits of a marked value are those of a rank.
