@@ -11,7 +11,7 @@ use lib.Dec.{ltb, leb, eqb}
 use lib.Pow.{pow-pos, pow-mono, pow-lt, pow-add, shl-lt, shl-shr, shr-lt, mod-pow-add}
 use lib.Bits.{bitAnd, and-high, and-mask}
 use lib.Count.{leadingZeros, leading-le, leading-top, leading-length, leading-unique}
-use borrow.Author.Tests.{ltb-true, leb-true, lt-ltb, le-ltb, le-leb, lt-leb, eq-eqb, ne-eqb}
+use borrow.Author.Tests.{ltb-true, leb-true, eqb-true, eqb-false, lt-ltb, le-ltb, le-leb, lt-leb, eq-eqb, ne-eqb}
 use Rattle.wire.proofs.BoolLaws.{both, both-true, whichever}
 use Rattle.wire.proofs.VarintLaws.{side}
 use Rattle.lists.specs.Values.{markBit, mark, marked, plainEnd, markedEnd, leastMarkedRank, markedRankFits, valid, sparseIndex, register, plainRank, rank, largestRank, loweredRank, loweredRegister, Pair, NewPost, IndexPost, RankPost}
@@ -421,11 +421,28 @@ new-post p s bit pair e =
       sparse = refl;
     }
 
--- The ends of the plain and of the marked values. The mark is `flag` there.
-module _ {p s flag : ℕ} (pair : Pair p s) (f : flag ≡ mark p s) where
-  pub code-plain-end : (s ≡ p → ⊥) → (1 * 2 ^ s) % 2 ^ 32 ≡ plainEnd p s
-  code-plain-end n = one-shl s (let h : s < 32 = omega (arith, pair .top) in h) ∙ sym (plain-end-some p s n)
+-- The least low six bits, and the end of the plain values by it.
+module _ (p s : ℕ) where
+  pub code-least-one : s ≡ p → (1 ≡ leastMarkedRank p s) × (1 ≤ 1)
+  code-least-one e = (sym (least-one p s e), le-refl 1)
 
+  pub code-least-none : (s ≡ p → ⊥) → (0 ≡ leastMarkedRank p s) × (0 ≤ 1)
+  code-least-none n = (sym (least-none p s n), zero-le)
+
+  pub code-plain-end : {least : ℕ} → Pair p s → least ≡ leastMarkedRank p s → ((1 - least) * 2 ^ s) % 2 ^ 32 ≡ plainEnd p s
+  code-plain-end {least} pair e =
+      ⊎-elim
+      (λ (t : eqb s p ≡ true).
+      let f = eqb-true s p t in
+      ap (λ (k : ℕ). ((1 - k) * 2 ^ s) % 2 ^ 32) (e ∙ least-one p s f) ∙ (let z : (0 * 2 ^ s) % 2 ^ 32 ≡ 0 = omega arith in z) ∙ sym (plain-end-none p s f))
+      (λ (t : eqb s p ≡ false).
+      let n = eqb-false s p t in
+      ap (λ (k : ℕ). ((1 - k) * 2 ^ s) % 2 ^ 32) (e ∙ least-none p s n)
+      ∙ one-shl s (let h : s < 32 = omega (arith, pair .top) in h)
+      ∙ sym (plain-end-some p s n)) (decided (eqb s p))
+
+-- The end of the marked values. The mark is `flag` there.
+module _ {p s flag : ℕ} (pair : Pair p s) (f : flag ≡ mark p s) where
   pub code-end : flag + (64 * 2 ^ p) % 2 ^ 32 ≡ markedEnd p s
   code-end = omega (arith, mark-index p s, mark-le p s pair)
 
@@ -433,12 +450,32 @@ module _ {p s flag : ℕ} (pair : Pair p s) (f : flag ≡ mark p s) where
   code-end-fits = omega (arith, code-end, mark-index p s, mark-le p s pair)
 
 -- What the code asks of the low six bits.
-module _ (p s v : ℕ) {least : ℕ} (e : least ≡ leastMarkedRank p s) where
-  pub rank-below : v % 64 < least → false ≡ markedRankFits p s v
-  rank-below h = sym (ap (λ (t : Bool). t && leb (v % 64) (65 - s)) (lt-leb (leastMarkedRank p s) (v % 64) (omega arith)))
+module _ (p s v least : ℕ) (pair : Pair p s) (e : least ≡ leastMarkedRank p s) (m : marked p s v ≡ true) where
+  some-value : 64 ≤ v
+  some-value = omega (arith, marked-ge p s v m, mark-index p s, pow-pos p)
 
-  pub rank-above : least ≤ v % 64 → leb (v % 64) (65 - s) ≡ markedRankFits p s v
-  rank-above h = sym (ap (λ (t : Bool). t && leb (v % 64) (65 - s)) (le-leb (leastMarkedRank p s) (v % 64) (omega arith)))
+  pub least-taken : least ≤ v
+  least-taken = omega (arith, some-value, least-le p s)
+
+  pub code-rank : leb ((v - least) % 64) (65 - s - least) ≡ markedRankFits p s v
+  code-rank =
+      ⊎-elim
+      (λ (h : v % 64 < least).
+      lt-leb ((v - least) % 64) (65 - s - least) (omega (arith, some-value, least-le p s, pair .low, pair .above))
+      ∙ sym (ap (λ (t : Bool). t && leb (v % 64) (65 - s)) (lt-leb (leastMarkedRank p s) (v % 64) (omega arith))))
+      (λ (h : least ≤ v % 64).
+      ⊎-elim
+      (λ (g : 65 - s < v % 64).
+      lt-leb ((v - least) % 64) (65 - s - least) (omega (arith, some-value, least-le p s, pair .top))
+      ∙ sym (lt-leb (v % 64) (65 - s) g)
+      ∙ above h)
+      (λ (g : v % 64 ≤ 65 - s).
+      le-leb ((v - least) % 64) (65 - s - least) (omega (arith, some-value, least-le p s, pair .top))
+      ∙ sym (le-leb (v % 64) (65 - s) g)
+      ∙ above h) (side (65 - s) (v % 64))) (side (v % 64) least)
+    where
+      above : least ≤ v % 64 → leb (v % 64) (65 - s) ≡ markedRankFits p s v
+      above h = sym (ap (λ (t : Bool). t && leb (v % 64) (65 - s)) (le-leb (leastMarkedRank p s) (v % 64) (omega arith)))
 
 module _ {p s flag : ℕ} (v : ℕ) (pair : Pair p s) (f : flag ≡ mark p s) where
   pub code-marked : not (eqb (bitAnd v flag) 0) ≡ marked p s v

@@ -42,15 +42,23 @@ pub fn is_rho_encoded(enc: Sparse, v: u32) -> bool
     v & enc.rho_encoded_flag != 0
 }
 
-// The end of the plain values. With s = p every value is marked.
+// The least low six bits of a marked value: with s = p they are its rank, which is not 0.
+fn least_marked_rank(enc: Sparse) -> u32
+    ensures { λ r. ⌜ (r ≡ leastMarkedRank (enc .«normal_precision») (enc .«sparse_precision»)) × (r ≤ 1) ⌝ }
+{
+    if enc.sparse_precision == enc.normal_precision {
+        1
+    } else {
+        0
+    }
+}
+
+// The end of the plain values, of which there is none with s = p. A choice between two ends would stay in a loop over many values.
 fn plain_end(enc: Sparse) -> u32
     requires { ⌜ SparseFits enc ⌝ }
     ensures { λ r. ⌜ r ≡ plainEnd (enc .«normal_precision») (enc .«sparse_precision») ⌝ }
 {
-    if enc.sparse_precision == enc.normal_precision {
-        return 0;
-    }
-    1 << enc.sparse_precision
+    (1 - least_marked_rank(enc)) << enc.sparse_precision
 }
 
 // The end of the marked values, whose index stands between the low six bits and the mark.
@@ -61,26 +69,13 @@ pub(crate) fn marked_end(enc: Sparse) -> u32
     enc.rho_encoded_flag + (64 << enc.normal_precision)
 }
 
-// The least low six bits of a marked value: with s = p they are its rank, which is not 0.
-fn least_marked_rank(enc: Sparse) -> u32
-    ensures { λ r. ⌜ r ≡ leastMarkedRank (enc .«normal_precision») (enc .«sparse_precision») ⌝ }
-{
-    if enc.sparse_precision == enc.normal_precision {
-        1
-    } else {
-        0
-    }
-}
-
-// Whether the low six bits of a marked value are those of a rank.
+// Whether the low six bits of a marked value are those of a rank, from the least to 65 - s, by one comparison: one less than the least wraps to 63.
 pub(crate) fn marked_rank_fits(enc: Sparse, v: u32) -> bool
-    requires { ⌜ SparseFits enc ⌝ }
+    requires { ⌜ SparseFits enc × (marked (enc .«normal_precision») (enc .«sparse_precision») v ≡ true) ⌝ }
     ensures { λ r. ⌜ r ≡ markedRankFits (enc .«normal_precision») (enc .«sparse_precision») v ⌝ }
 {
-    if v % 64 < least_marked_rank(enc) {
-        return false;
-    }
-    v % 64 <= 65 - enc.sparse_precision
+    let least = least_marked_rank(enc);
+    (v - least) % 64 <= 65 - enc.sparse_precision - least
 }
 
 // Whether a list of this pair may have a value.

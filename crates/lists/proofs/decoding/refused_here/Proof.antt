@@ -22,7 +22,7 @@ returns-2 c =
     (sym (c .before .is-rho-encoded .ensures) ∙ not-true _ (c .if2 .taken))
 
 marked-rank-fits-requires : tie.Need-marked-rank-fits-requires
-marked-rank-fits-requires c κs = search needs
+marked-rank-fits-requires c κs = (c .before .before .before .pre, sym (c .before .is-rho-encoded .ensures) ∙ not-false _ (c .if2 .left))
 
 returns-3 : tie.Need-returns-3
 returns-3 c =

@@ -29,7 +29,7 @@ returns-2 c =
     sym (marked-far (o .enc .«normal_precision») (o .enc .«sparse_precision») (o .v) (sym (c .before .before .before .is-rho-encoded .ensures) ∙ not-false _ (c .before .before .if1 .left)) (omega (arith, c .before .marked-end .ensures, c .if2 .taken)))
 
 marked-rank-fits-requires : tie.Need-marked-rank-fits-requires
-marked-rank-fits-requires c κs = search needs
+marked-rank-fits-requires c κs = (c .before .before .before .before .pre, sym (c .before .before .before .is-rho-encoded .ensures) ∙ not-false _ (c .before .before .if1 .left))
 
 returns-3 : tie.Need-returns-3
 returns-3 c =
