@@ -1,6 +1,6 @@
 //! States to make cases of: those of one kind, and by chance. Shared by the makers of the vectors of `rollup_cases` and `roll_cases`.
 
-use crate::cases::{marked, Chance, Pair};
+use crate::cases::{least_m, marked, Chance, Pair};
 use original::Fields;
 
 /// A state with neither data nor a list.
@@ -40,6 +40,13 @@ pub fn upto(first: u32, n: u32) -> Vec<u32> {
     (first..first + n).collect()
 }
 
+/// Values at the edges of a pair. With s = p every value is marked.
+pub fn edges(pair: Pair) -> Vec<u32> {
+    let (p, s) = pair;
+    let plain = if s == p { vec![] } else { vec![0, 1, 9, (1 << s) - 1] };
+    [plain, vec![marked(pair, 0, 3), marked(pair, 5, least_m(pair)), marked(pair, (1 << p) - 1, (65 - s) as u32)]].concat()
+}
+
 // ---- by chance
 
 pub fn some_pair(chance: &mut Chance) -> Pair {
@@ -49,9 +56,10 @@ pub fn some_pair(chance: &mut Chance) -> Pair {
 
 pub fn some_value(chance: &mut Chance, (p, s): Pair) -> u32 {
     let few = 1 + chance.below(12);
-    if chance.below(2) == 0 {
+    if s == p || chance.below(2) == 0 {
         let index = chance.below(few.min(1 << p)) as u32;
-        return marked((p, s), index, chance.below((66 - s) as u64) as u32);
+        let least = least_m((p, s));
+        return marked((p, s), index, least + chance.below((66 - s) as u64 - u64::from(least)) as u32);
     }
     let v = chance.below((few * few * 4).min(1 << s)) as u32;
     if chance.below(3) == 0 { v >> (s - p) << (s - p) } else { v }
