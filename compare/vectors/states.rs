@@ -41,7 +41,7 @@ pub fn upto(first: u32, n: u32) -> Vec<u32> {
 }
 
 /// Values at the edges of a pair. With s = p every value is marked.
-pub fn edges(pair: Pair) -> Vec<u32> {
+pub fn edge_values(pair: Pair) -> Vec<u32> {
     let (p, s) = pair;
     let plain = if s == p { vec![] } else { vec![0, 1, 9, (1 << s) - 1] };
     [plain, vec![marked(pair, 0, 3), marked(pair, 5, least_m(pair)), marked(pair, (1 << p) - 1, (65 - s) as u32)]].concat()
