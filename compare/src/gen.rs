@@ -728,7 +728,7 @@ impl Gen {
         let p = if self.once(12) { 10 + self.below(7) as i32 } else { 4 + self.below(6) as i32 };
         let pair = (p, p);
         let mut script = self.lent(p, 300);
-        for _ in 0..self.one(&[2, 6, 14]) {
+        for _ in 0..self.one(&[4, 12, 30]) {
             let f = match self.below(12) {
                 0 => {
                     let r = self.registers(p);
@@ -936,7 +936,7 @@ impl Gen {
             56..=69 => self.lowered(),
             70..=73 => self.each_damage(),
             74 => self.many_wait(),
-            75..=78 => self.equal_precisions(),
+            75..=80 => self.equal_precisions(),
             _ => self.set(),
         }
     }
