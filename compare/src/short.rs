@@ -54,7 +54,8 @@ fn each(n: usize, before: &[Vec<u8>], what: &str, state: impl Fn(&[u8]) -> Vec<u
     }
     let total = answers.iter().sum();
     let shown: Vec<String> = answers.iter().enumerate().filter(|(_, n)| **n > 0).map(|(a, n)| format!("{a}: {n}")).collect();
-    println!("{total:>10} {what} of {n} bytes, after {} states: {}; {refused} refused as U3 asks", before.len(), shown.join(", "));
+    let departed = if refused == 0 { String::new() } else { format!("; {refused} refused as U3 asks, where the Rust says something else") };
+    println!("{total:>10} {what} of {n} bytes, after {} states: {}{departed}", before.len(), shown.join(", "));
     total
 }
 
