@@ -3,7 +3,7 @@
 
 use crate::cases::{least_m, mark, Pair};
 
-/// What the low six bits of a marked value can be: "m at most 65−s"; U3: "With s = p, .. a marked value with m = 0 now get[s] 20."
+/// What the low six bits of a marked value can be: "m at most 65−s"; U3: "With s = p, a plain value and a marked value with m = 0 now get 20"
 fn is_m(pair: Pair, m: u32) -> bool {
     least_m(pair) <= m && m <= (65 - pair.1) as u32
 }

@@ -66,7 +66,7 @@ pub fn is_valid(p: i32, s: i32, v: u32) -> bool {
 }
 
 /// The values of a list, or 18, 19 or 20. The original reads the same where s > p, and where s = p it reads these and more.
-pub fn decode((p, s): Pair, bytes: &[u8]) -> Result<Vec<u32>, u8> {
+fn decode((p, s): Pair, bytes: &[u8]) -> Result<Vec<u32>, u8> {
     let read = lists::decode((p, s), bytes);
     if read.is_ok() || s > p {
         assert_eq!(read, original::decode_sparse(bytes, p, s), "{bytes:x?} at ({p},{s})");

@@ -896,7 +896,9 @@ impl Gen {
     fn unfit(&mut self, set: &mut Set) {
         let h = &mut set.head;
         let some = |g: &mut Gen| g.one(&[0, 1, 2, 3, 21, 300, 301, 2048, 2049, 1 << 31, (1 << 31) - 1, u64::MAX]);
-        match self.below(10) {
+        // With s = p, half of the lists get a value that none has.
+        let what = if h.form == SPARSE && h.s == h.p && self.once(2) { 6 + self.below(2) } else { self.below(10) };
+        match what {
             0 => h.p = self.one(&[0, 3, 4, 25, 24, -5, 11, 5]),
             1 => h.s = self.one(&[0, 4, 26, 25, -10, i32::MIN, 9]),
             2 => h.kept = some(self),

@@ -383,7 +383,7 @@ enum Fault {
     /// A plain value.
     Plain,
     /// A marked value with m = 0.
-    None,
+    Zero,
     /// A marked value with m above 65-s.
     Above,
     /// A value with a bit above the mark, the mark bit clear.
@@ -398,7 +398,7 @@ enum Fault {
     Long,
 }
 
-const FAULTS: [Fault; 8] = [Fault::Plain, Fault::None, Fault::Above, Fault::Past, Fault::PastMarked, Fault::Descends, Fault::Cut, Fault::Long];
+const FAULTS: [Fault; 8] = [Fault::Plain, Fault::Zero, Fault::Above, Fault::Past, Fault::PastMarked, Fault::Descends, Fault::Cut, Fault::Long];
 
 /// The bytes of a gap.
 fn gap(v: u32) -> Vec<u8> {
@@ -412,7 +412,7 @@ impl Fault {
         let next = (if last < 2 * mark(pair) { 1 } else { 3 }) * mark(pair) + 64 + last % mark(pair) / 64 * 64;
         let v = match self {
             Fault::Plain => last + 1,
-            Fault::None => next,
+            Fault::Zero => next,
             Fault::Above => next + (66 - pair.1) as u32,
             Fault::Past => 2 * mark(pair) + 1,
             Fault::PastMarked => 3 * mark(pair) + 1,
@@ -428,7 +428,7 @@ impl Fault {
     fn number(self) -> (u8, bool) {
         match self {
             Fault::Plain | Fault::Past | Fault::PastMarked => (20, false),
-            Fault::None | Fault::Above | Fault::Descends => (20, true),
+            Fault::Zero | Fault::Above | Fault::Descends => (20, true),
             Fault::Cut => (18, true),
             Fault::Long => (19, true),
         }

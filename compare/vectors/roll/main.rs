@@ -11,7 +11,7 @@ mod states;
 
 use cases::{hex, mark, marked, unhex, Cases, Chance, Pair};
 use original::{Accumulator, Fields, Probe};
-use states::{damaged, dense, edge_values, neither, raw, registers, some_list, some_pair, some_registers, spelled, upto};
+use states::{damaged, dense, edge_values, equal_lists, neither, raw, registers, some_list, some_pair, some_registers, spelled, upto};
 use std::collections::BTreeMap;
 
 const UNSTARTED: u8 = 0;
@@ -777,37 +777,6 @@ fn registers_of_all_kinds(made: &mut Made) {
     }
 }
 
-/// Lists with s = p, and their numbers, by document 02, U3.
-fn equal_lists(pair: Pair) -> Vec<(u8, Vec<u8>)> {
-    let flag = mark(pair);
-    let (last, most) = ((1 << pair.0) - 1, (65 - pair.1) as u32);
-    let m = |i, m| marked(pair, i, m);
-    let then = |values: &[u32], bytes: &str| [original::encode_sparse(values), unhex(bytes)].concat();
-    vec![
-        (20, then(&[0], "")),
-        (20, then(&[1], "")),
-        (20, then(&[last], "")),
-        (20, then(&[0, 1, m(3, 9)], "")),
-        (18, then(&[1], "80")),
-        (19, then(&[1], "8080808010")),
-        (20, then(&[m(0, 0)], "")),
-        (20, then(&[m(0, 1), m(last, 0)], "")),
-        (20, then(&[m(2, 0), m(2, 1)], "")),
-        (20, then(&[m(2, 0)], "80")),
-        (20, then(&[1, m(2, 0)], "8080808010")),
-        (20, then(&[m(2, most + 1)], "80")),
-        (20, then(&[3 * flag], "80")),
-        (18, then(&[3 * flag + 1], "80")),
-        (18, then(&[2 * flag], "80")),
-        (20, then(&[2 * flag + 1], "")),
-        (20, then(&[m(2, 1)], "ffffffff0f 80")),
-        (18, then(&[m(2, 1)], "80")),
-        (0, then(&[m(0, 1), m(2, 1), m(2, most), m(last, most)], "")),
-        (0, then(&[m(2, 1), m(2, 1)], "00")),
-        (0, vec![]),
-    ]
-}
-
 fn equal_precisions(made: &mut Made) {
     made.all.remark("Document 02, U3: with s = p a plain value is 20 at the end of the list, and m = 0 where it is read. Each list alone, at a list, at registers, and all in one batch");
     let e9 = unhex("0870100118028207091001180a200a320101");
@@ -818,13 +787,16 @@ fn equal_precisions(made: &mut Made) {
         let good = list(pair, &[marked(pair, 1, 1), marked(pair, 7, 9)]);
         let state = |bytes: &[u8]| raw(pair, 1, bytes).encode();
         let zeros = dense((4, 4), &[0; 16]).encode();
-        for (n, bytes) in equal_lists(pair) {
-            made.answered(&[state(&bytes)], &[n]);
-            let rolled = made.answered(&[good.clone(), state(&bytes), good.clone()], &[0, n, 0]);
-            assert!(n == 0 || (rolled.closing.2, rolled.closing.3) == (4, 2));
-            made.answered(&[zeros.clone(), state(&bytes)], &[0, n]);
+        let m = |i, m| marked(pair, i, m);
+        let accepted = [vec![m(0, 1), m(2, 1), m(2, (65 - pair.1) as u32)], vec![m(2, 1), m(2, 1), m((1 << pair.0) - 1, 1)], vec![]];
+        let lists: Vec<(u8, Vec<u8>)> = equal_lists(pair).into_iter().chain(accepted.map(|l| (0, original::encode_sparse(&l)))).collect();
+        for (n, bytes) in &lists {
+            made.answered(&[state(bytes)], &[*n]);
+            let rolled = made.answered(&[good.clone(), state(bytes), good.clone()], &[0, *n, 0]);
+            assert!(*n == 0 || (rolled.closing.2, rolled.closing.3) == (4, 2));
+            made.answered(&[zeros.clone(), state(bytes)], &[0, *n]);
         }
-        let (want, states): (Vec<u8>, Vec<Vec<u8>>) = equal_lists(pair).iter().map(|(n, bytes)| (*n, state(bytes))).unzip();
+        let (want, states): (Vec<u8>, Vec<Vec<u8>>) = lists.iter().map(|(n, bytes)| (*n, state(bytes))).unzip();
         made.answered(&states, &want);
     }
     made.all.remark("At (24,24) and (17,17), for which roll lends no registers, 17 comes before; at registers of a smaller p it does not");

@@ -11,7 +11,7 @@ mod states;
 use cases::{hex, mark, marked, text, unhex, Cases, Chance, Pair};
 use model::{limit, Departure, Head, Rollup, DENSE, SPARSE, UNSTARTED};
 use original::Fields;
-use states::{damaged, dense, edge_values, list, neither, raw, registers, some_list, some_pair, some_registers, spelled, upto};
+use states::{damaged, dense, edge_values, equal_lists, list, neither, raw, registers, some_list, some_pair, some_registers, spelled, upto};
 
 /// What lent memory is filled with.
 const REGISTER: u8 = 165;
@@ -608,53 +608,6 @@ fn bad_lists(made: &mut Made) {
         made.add(20, &list(pair, &[2 * mark(pair)]));
         made.add(20, &list(pair, &[marked(pair, (1 << pair.0) - 1, 41)]));
     }
-}
-
-/// Lists with s = p that are refused, and their numbers: document 02, U3.
-fn equal_lists(pair: Pair) -> Vec<(u8, Vec<u8>)> {
-    let flag = mark(pair);
-    let (last, most) = ((1 << pair.0) - 1, (65 - pair.1) as u32);
-    let m = |i, m| marked(pair, i, m);
-    let values = |values: &[u32]| original::encode_sparse(values);
-    let then = |values: &[u32], bytes: &str| [original::encode_sparse(values), unhex(bytes)].concat();
-    vec![
-        // A plain value: alone, before a valid one, before a cut gap and one that is too long.
-        (20, values(&[0])),
-        (20, values(&[1])),
-        (20, values(&[last])),
-        (20, values(&[last + 1])),
-        (20, values(&[flag - 1])),
-        (20, values(&[0, m(0, 1)])),
-        (20, values(&[1, 1, m(3, 1), m(4, most)])),
-        (18, then(&[1], "80")),
-        (19, then(&[1], "8080808010")),
-        (18, then(&[1, m(3, 1)], "80")),
-        // m = 0: alone, before and after a valid value, after a plain one, before a cut gap and one that is too long.
-        (20, values(&[m(0, 0)])),
-        (20, values(&[m(last, 0)])),
-        (20, values(&[m(0, 0), m(0, 1)])),
-        (20, values(&[m(0, 1), m(1, 0)])),
-        (20, values(&[1, m(1, 0)])),
-        (20, then(&[m(1, 0)], "80")),
-        (20, then(&[m(1, 0)], "8080808010")),
-        (20, then(&[m(0, 1), m(1, 0)], "80")),
-        (20, then(&[1, m(1, 0)], "80")),
-        // m above 65-s.
-        (20, values(&[m(3, most + 1)])),
-        (20, then(&[m(3, most + 1)], "80")),
-        (20, then(&[1, m(3, 63)], "8080808010")),
-        // Bits above the mark: the mark bit set and m = 0, m in range, m above; the mark bit clear.
-        (20, then(&[3 * flag], "80")),
-        (18, then(&[3 * flag + 1], "80")),
-        (20, then(&[3 * flag + most + 1], "80")),
-        (18, then(&[2 * flag], "80")),
-        (20, values(&[m(0, 1), 3 * flag + 1])),
-        (20, values(&[2 * flag + 1])),
-        // A sum that wraps, a cut gap and one that is too long behind a valid value.
-        (20, then(&[m(1, 1)], "ffffffff0f 80")),
-        (18, then(&[m(1, 1)], "80")),
-        (19, then(&[m(1, 1)], "8080808010 80")),
-    ]
 }
 
 fn equal_precisions(made: &mut Made) {
@@ -1474,7 +1427,7 @@ fn writing_numbers(made: &mut Made) {
     }
     made.after(4, &[&dense(pair, &[0; 16]), &neither((5, 7))]);
     made.again();
-    made.all.remark("Registers of 65-p by a list with s = p: what is written is read again, which no list of that pair can undo");
+    made.all.remark("Registers of 65-p, set by a list with s = p: refused lists change nothing, and what is written is read again");
     for pair in [(4, 4), (5, 5)] {
         let (p, most) = (pair.0, (65 - pair.0) as u32);
         made.after(p, &[&dense(pair, &registers(p, &[])), &list(pair, &[marked(pair, 1, most), marked(pair, 2, 1)])]);
