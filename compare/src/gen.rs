@@ -892,13 +892,29 @@ impl Gen {
         if s == p && !self.once(4) { self.unlisted((p, s)) } else { self.one(&[0, 1, 1 << 25, 1 << 31, 1 << 16, u32::MAX, 1 << 12]) }
     }
 
+    /// A list head with s = p gets a value that is plain, or marked with m = 0, and mostly fits but for it.
+    fn unfit_equal(&mut self, set: &mut Set) {
+        let pair = (set.head.p, set.head.s);
+        let v = if self.once(2) { self.below(1 << pair.1) as u32 } else { marked(pair, self.below(1 << pair.0) as u32, 0) };
+        if !set.waiting.is_empty() && self.once(2) {
+            let at = self.below(set.waiting.len() as u64) as usize;
+            set.waiting[at] = v;
+            return;
+        }
+        set.kept.push(v);
+        set.kept.sort_unstable();
+        set.waiting.clear();
+        set.head = Head { kept: set.kept.len() as u64, bytes: set.head.bytes + 10, waiting: 0, ..set.head };
+    }
+
     /// One thing of a head or its memory is changed; some of these heads still fit.
     fn unfit(&mut self, set: &mut Set) {
+        if set.head.form == SPARSE && set.head.s == set.head.p && self.once(2) {
+            return self.unfit_equal(set);
+        }
         let h = &mut set.head;
         let some = |g: &mut Gen| g.one(&[0, 1, 2, 3, 21, 300, 301, 2048, 2049, 1 << 31, (1 << 31) - 1, u64::MAX]);
-        // With s = p, half of the lists get a value that none has.
-        let what = if h.form == SPARSE && h.s == h.p && self.once(2) { 6 + self.below(2) } else { self.below(10) };
-        match what {
+        match self.below(10) {
             0 => h.p = self.one(&[0, 3, 4, 25, 24, -5, 11, 5]),
             1 => h.s = self.one(&[0, 4, 26, 25, -10, i32::MIN, 9]),
             2 => h.kept = some(self),
@@ -908,11 +924,6 @@ impl Gen {
             6 if !set.kept.is_empty() => {
                 let at = self.below(set.kept.len() as u64) as usize;
                 set.kept[at] = self.unfit_value((h.p, h.s));
-                if self.once(2) {
-                    // In order, and with bytes enough: the value alone is wrong.
-                    set.kept.sort_unstable();
-                    h.bytes += 10;
-                }
             }
             7 if !set.waiting.is_empty() => {
                 let at = self.below(set.waiting.len() as u64) as usize;
