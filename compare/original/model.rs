@@ -1,7 +1,8 @@
-//! The roll-up that is expected: the Rust original's accumulator, and document 01 for what that has no counterpart of. It is what the maker of the vectors
-//! of `rollup_cases` and the comparison share; both have `cases.rs` beside it.
+//! The roll-up that is expected: the Rust original's accumulator, and documents 01 and 02 for what that has no counterpart of. It is what the maker of the vectors
+//! of `rollup_cases` and the comparison share; both have `cases.rs` and `lists.rs` beside it.
 
 use crate::cases::{mark, Pair};
+use crate::lists;
 use original::{Accumulator, Fields, Probe};
 use std::collections::BTreeSet;
 
@@ -36,22 +37,56 @@ pub struct Rollup {
     pub rust: Option<Accumulator>,
 }
 
-// ---- document 01, where the original has no counterpart
+/// Where the original does something else.
+#[derive(Clone, Copy, Debug, PartialEq)]
+pub enum Departure {
+    None,
+    /// Document 01's "Difference": merged in the place of an insertion.
+    Merged,
+    /// Document 02, U3: refused, where the original accepts the list.
+    Refused,
+    /// The same, where the original finds a fault further on.
+    RefusedSooner,
+}
+
+// ---- documents 01 and 02, where the original has no counterpart
 
 /// "Limit L = 3 × 2^(p−2)."
 pub fn limit(p: i32) -> u64 {
     3 << (p - 2)
 }
 
-/// Module 3: "A plain value is an index below 2^s"; "a marked value is mark + 64 × index + m, with index below 2^p and m at most 65−s".
+/// Whether a list may have a value. The original says the same where s > p, and where s = p it takes these and more.
 pub fn is_valid(p: i32, s: i32, v: u32) -> bool {
-    let mark = mark((p, s));
-    let valid = match v.checked_sub(mark) {
-        None => v < 1 << s,
-        Some(rest) => rest / 64 < 1 << p && rest % 64 <= (65 - s) as u32,
-    };
-    assert_eq!(valid, original::is_valid(p, s, v), "{v} at ({p},{s})");
+    let valid = lists::is_valid((p, s), v);
+    if valid || s > p {
+        assert_eq!(valid, original::is_valid(p, s, v), "{v} at ({p},{s})");
+    }
     valid
+}
+
+/// The values of a list, or 18, 19 or 20. The original reads the same where s > p, and where s = p it reads these and more.
+fn decode((p, s): Pair, bytes: &[u8]) -> Result<Vec<u32>, u8> {
+    let read = lists::decode((p, s), bytes);
+    if read.is_ok() || s > p {
+        assert_eq!(read, original::decode_sparse(bytes, p, s), "{bytes:x?} at ({p},{s})");
+    }
+    read
+}
+
+/// The answer to a state's list, which the original answered with 0, 18, 19 or 20; and whether U3 had a say.
+pub fn listed(f: &Fields, rust: u8) -> (u8, Departure) {
+    let Some(list) = f.sparse_data.as_ref().filter(|l| !l.is_empty()) else {
+        return (rust, Departure::None);
+    };
+    let pair = (f.precision, f.sparse_precision);
+    match (decode(pair, list), rust) {
+        (Ok(_), 0) => (0, Departure::None),
+        (Err(n), _) if n == rust => (n, Departure::None),
+        (Err(20), 0) if pair.0 == pair.1 => (20, Departure::Refused),
+        (Err(20), 18 | 19) if pair.0 == pair.1 => (20, Departure::RefusedSooner),
+        (read, _) => panic!("the original answers {rust}, the words {read:?}"),
+    }
 }
 
 pub fn ascends(list: &[u32]) -> bool {
@@ -81,7 +116,7 @@ impl Rollup {
         &self.waiting[..(self.head.waiting as usize).min(self.waiting.len())]
     }
 
-    /// Question 1.
+    /// Question 1. Document 02, U3: it "asks for registers at most 65−p".
     pub fn fits(&self) -> bool {
         let h = &self.head;
         let started = (4..=24).contains(&h.p) && h.s != 0;
@@ -89,7 +124,7 @@ impl Rollup {
         match h.form {
             UNSTARTED => no_lists,
             DENSE => {
-                started && no_lists && self.registers.len() >= 1 << h.p && self.registers[..1 << h.p].iter().all(|r| i32::from(*r) <= 88 - h.p)
+                started && no_lists && self.registers.len() >= 1 << h.p && self.registers[..1 << h.p].iter().all(|r| i32::from(*r) <= 65 - h.p)
             }
             _ => {
                 started
@@ -150,28 +185,26 @@ impl Rollup {
         })
     }
 
-    /// The answer to a state, which is added where it is accepted; and whether "Difference" had a say.
-    pub fn add(&mut self, bytes: &[u8]) -> (u8, bool) {
+    /// The answer to a state, which is added where it is accepted; and where the original does something else.
+    pub fn add(&mut self, bytes: &[u8]) -> (u8, Departure) {
         if !self.fits() {
-            return (1, false);
+            return (1, Departure::None);
         }
         if bytes.len() > 2147483647 {
-            return (2, false);
+            return (2, Departure::None);
         }
         let before = self.rust.take().unwrap_or_else(|| self.accumulator());
         let mut after = before.clone();
-        let mut answer = original::add(&mut after, bytes);
-        if answer != 0 && answer < 17 {
+        let rust = original::add(&mut after, bytes);
+        if rust != 0 && rust < 17 {
             self.rust = Some(before);
-            return (answer, false);
+            return (rust, Departure::None);
         }
         let f = Fields::parse(bytes).expect("a state that was read");
-        if !self.has_room(&f) {
-            answer = 17;
-        }
+        let (answer, departure) = if self.has_room(&f) { listed(&f, rust) } else { (17, Departure::None) };
         if answer != 0 {
             self.rust = Some(before);
-            return (answer, false);
+            return (answer, departure);
         }
         let differs = self.differs(&f);
         if differs {
@@ -181,7 +214,7 @@ impl Rollup {
         self.take(&after.probe());
         self.rust = Some(after);
         assert!(self.fits(), "what an accepted call leaves fits");
-        (0, differs)
+        (0, if differs { Departure::Merged } else { Departure::None })
     }
 
     /// The answer to writing into an output of this many bytes, and the written bytes: the original's where no question is answered no.

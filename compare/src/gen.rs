@@ -1,6 +1,6 @@
 //! Scripts by chance, the same for the same seed.
 
-use crate::cases::{mark, marked, Chance, Pair};
+use crate::cases::{least_m, mark, marked, Chance, Pair};
 use crate::model::{limit, Head, DENSE, SPARSE, UNSTARTED};
 use crate::run::{Call, Script, Set};
 use original::Fields;
@@ -23,6 +23,11 @@ pub fn list(pair: Pair, values: &[u32]) -> Fields {
 /// A state with these registers.
 pub fn dense(pair: Pair, registers: Vec<u8>) -> Fields {
     Fields { num_values: 100, data: Some(registers), ..neither(pair) }
+}
+
+/// The i-th of values that ascend in steps of one byte, as far as the pair has them. With s = p every value is marked.
+fn step((p, s): Pair, i: u32) -> u32 {
+    if s == p { marked((p, s), i.min((1 << p) - 1), 1) } else { i.min((1 << s) - 1) }
 }
 
 fn put_varint(out: &mut Vec<u8>, mut v: u64) {
@@ -64,7 +69,7 @@ impl Gen {
     }
 
     fn pair_of(&mut self, p: i32) -> Pair {
-        let s = if self.once(4) { p + self.below((26 - p) as u64) as i32 } else { p + self.one(&[0, 1, 2, 4, 5, 5, 5, 6, 7, 8]) };
+        let s = if self.once(4) { p + self.below((26 - p) as u64) as i32 } else { p + self.one(&[0, 0, 1, 2, 4, 5, 5, 5, 6, 7, 8]) };
         (p, s.min(25))
     }
 
@@ -74,15 +79,16 @@ impl Gen {
     }
 
     fn value(&mut self, (p, s): Pair, few: u64) -> u32 {
+        let least = least_m((p, s));
         match self.below(40) {
-            0 => return (1 << s) - 1,
+            0 if s > p => return (1 << s) - 1,
             1 => return marked((p, s), (1 << p) - 1, (65 - s) as u32),
-            2 => return marked((p, s), 0, 0),
+            2 => return marked((p, s), 0, least),
             _ => {}
         }
-        if self.once(3) {
+        if s == p || self.once(3) {
             let index = self.below(few.min(1 << p)) as u32;
-            return marked((p, s), index, self.below((66 - s) as u64) as u32);
+            return marked((p, s), index, least + self.below((66 - s) as u64 - u64::from(least)) as u32);
         }
         let v = self.below((few * few * 4).min(1 << s)) as u32;
         if self.once(4) { v >> (s - p) << (s - p) } else { v }
@@ -112,17 +118,15 @@ impl Gen {
         out
     }
 
-    /// The bytes of a list; now and then with longer spellings.
+    /// The bytes of a list; now and then with longer spellings. A value that is less than the one before takes a gap that wraps.
     fn spelled(&mut self, values: &[u32]) -> Vec<u8> {
-        if !self.once(3) {
-            return original::encode_sparse(values);
-        }
+        let longer = self.once(3);
         let mut last = 0;
         let mut out = Vec::new();
         for v in values {
-            let gap = u64::from(v - last);
+            let gap = u64::from(v.wrapping_sub(last));
             last = *v;
-            if self.once(2) {
+            if longer && self.once(2) {
                 out.extend(self.long(gap, 5));
             } else {
                 put_varint(&mut out, gap);
@@ -131,8 +135,59 @@ impl Gen {
         out
     }
 
+    /// A value that no list with s = p has: a plain one, one between the plain ones and the mark, m = 0, m above 65-s, bits above the mark with the mark bit clear or set.
+    fn unlisted(&mut self, (p, s): Pair) -> u32 {
+        let flag = mark((p, s));
+        let index = self.below(1 << p) as u32;
+        let m = (66 - s) as u32 + self.below((s - 2) as u64) as u32;
+        match self.below(8) {
+            0 => self.one(&[0, 1, (1 << s) - 1]),
+            1 => self.below(1 << s) as u32,
+            2 => (1 << s) + self.below(u64::from(flag - (1 << s))) as u32,
+            3 | 4 => marked((p, s), index, 0),
+            5 => marked((p, s), index, m),
+            6 => 2 * flag + 64 * index + self.one(&[0, 1, m]),
+            _ => 3 * flag + 64 * index + self.one(&[0, 0, 1, m]),
+        }
+    }
+
+    /// Something behind a list, or the end of it taken away: a cut gap, an overlong one, one that wraps.
+    fn ended(&mut self, mut bytes: Vec<u8>) -> Vec<u8> {
+        match self.below(8) {
+            0 => bytes.push(0x80 | self.below(128) as u8),
+            1 => bytes.extend([0x80 | self.below(128) as u8, 0x80, 0x80, 0x80, self.below(256) as u8]),
+            2 => bytes.extend([0xff, 0xff, 0xff, 0xff, 0x0f]),
+            3 => bytes.extend([0x80, 0x80, 0x80, 0x80]),
+            4 => bytes.truncate(self.below(bytes.len() as u64 + 1) as usize),
+            _ => {}
+        }
+        bytes
+    }
+
+    /// The bytes of a list with s = p that has a fault or two somewhere, mostly in order.
+    fn equal_faulty(&mut self, pair: Pair) -> Vec<u8> {
+        let mut values = self.values(pair, 3);
+        for _ in 0..1 + self.below(2) {
+            let at = self.below(values.len() as u64 + 1) as usize;
+            let v = self.unlisted(pair);
+            values.insert(at, v);
+        }
+        if !self.once(4) {
+            values.sort_unstable();
+        }
+        let mut bytes = self.spelled(&values);
+        if self.once(8) {
+            let at = self.below(bytes.len() as u64 + 1) as usize;
+            bytes.splice(at..at, [0x80, 0x80, 0x80, 0x80, 0x10]);
+        }
+        self.ended(bytes)
+    }
+
     /// The bytes of a list with a fault somewhere.
     fn faulty(&mut self, (p, s): Pair) -> Vec<u8> {
+        if s == p && !self.once(4) {
+            return self.equal_faulty((p, s));
+        }
         let mut values = self.values((p, s), 4);
         let flag = mark((p, s));
         let last = match self.below(9) {
@@ -149,14 +204,8 @@ impl Gen {
         if values.last().is_none_or(|v| *v <= last) {
             values.push(last);
         }
-        let mut bytes = self.spelled(&values);
-        match self.below(6) {
-            0 => bytes.push(0x80 | self.below(128) as u8),
-            1 => bytes.extend([0x80 | self.below(128) as u8, 0x80, 0x80, 0x80, self.below(256) as u8]),
-            2 => bytes.extend([0xff, 0xff, 0xff, 0xff, 0x0f]),
-            3 => bytes.extend([0x80, 0x80, 0x80, 0x80]),
-            _ => {}
-        }
+        let bytes = self.spelled(&values);
+        let mut bytes = self.ended(bytes);
         if self.once(4) {
             bytes.push(self.below(256) as u8);
         }
@@ -510,7 +559,7 @@ impl Gen {
         let mut values = self.values(pair, first);
         if self.once(2) {
             let few = 2 * l as u32 + self.below(300) as u32;
-            values = (0..first as u32).map(|i| i * few.min(1 << pair.1) / l as u32 % (1 << pair.1)).collect();
+            values = (0..first as u32).map(|i| step(pair, i * few.min(1 << pair.1) / l as u32 % (1 << pair.1))).collect();
             values.sort_unstable();
         }
         let f = Fields { sparse_data: Some(self.spelled(&values)), ..list(pair, &values) };
@@ -534,7 +583,7 @@ impl Gen {
         let mut script = self.lent(p, limit(p) as usize + 300);
         let l = limit(p) as u32;
         let n = l - 1 - self.below(u64::from(l / 4)) as u32;
-        let mut values: Vec<u32> = (0..n).map(|i| i.min((1 << pair.1) - 1)).collect();
+        let mut values: Vec<u32> = (0..n).map(|i| step(pair, i)).collect();
         let some = self.one(&[0, 0, 1, 3, 9]);
         for _ in 0..some {
             let v = self.value(pair, 40);
@@ -576,7 +625,7 @@ impl Gen {
         let mut script = self.lent(p, limit(p) as usize + 300);
         let n = 16 * k - 1 + self.below(3) as u32;
         let wide = self.one(&[1, 1, 3]);
-        let mut values: Vec<u32> = (0..n).map(|i| (i * wide).min((1 << pair.1) - 1)).collect();
+        let mut values: Vec<u32> = (0..n).map(|i| step(pair, i * wide)).collect();
         if self.once(2) {
             let at = self.below(u64::from(n) - 1) as usize;
             values[at + 1] = values[at];
@@ -674,6 +723,36 @@ impl Gen {
         script
     }
 
+    /// Lists with s = p, sound ones and ones with a fault, at a fresh roll-up, at a list and at registers.
+    fn equal_precisions(&mut self) -> Script {
+        let p = if self.once(12) { 10 + self.below(7) as i32 } else { 4 + self.below(6) as i32 };
+        let pair = (p, p);
+        let mut script = self.lent(p, 300);
+        for _ in 0..self.one(&[4, 12, 30]) {
+            let f = match self.below(12) {
+                0 => {
+                    let r = self.registers(p);
+                    dense(pair, r)
+                }
+                1 => neither(pair),
+                2..=5 => {
+                    let values = self.values(pair, 12);
+                    Fields { sparse_data: Some(self.spelled(&values)), ..list(pair, &values) }
+                }
+                _ => Fields { sparse_data: Some(self.equal_faulty(pair)), ..neither(pair) },
+            };
+            script.calls.push(Call::Add(f.encode()));
+            if self.once(6) {
+                script.calls.push(Call::Near);
+            }
+        }
+        // Lowered, and read from a precision above.
+        let other = self.near(pair);
+        let values = self.values(other, 12);
+        script.calls.extend([Call::Add(list(other, &values).encode()), Call::Write((1 << p) + 400)]);
+        script
+    }
+
     /// Each front of a state, each flipped bit, and each byte left out, after a few sound ones.
     fn each_damage(&mut self) -> Script {
         let p = 4 + self.below(3) as i32;
@@ -760,7 +839,7 @@ impl Gen {
             0 => {
                 set.head.form = DENSE;
                 set.registers = self.registers(p);
-                set.registers[3] = (88 - p) as u8;
+                set.registers[3] = (65 - p) as u8;
                 if self.once(4) {
                     set.head.s = self.one(&[-1, 1, i32::MIN, i32::MAX]);
                 }
@@ -808,8 +887,31 @@ impl Gen {
         script
     }
 
+    /// A value that a list may not have; some are valid at some pairs.
+    fn unfit_value(&mut self, (p, s): Pair) -> u32 {
+        if s == p && !self.once(4) { self.unlisted((p, s)) } else { self.one(&[0, 1, 1 << 25, 1 << 31, 1 << 16, u32::MAX, 1 << 12]) }
+    }
+
+    /// A list head with s = p gets a value that is plain, or marked with m = 0, and mostly fits but for it.
+    fn unfit_equal(&mut self, set: &mut Set) {
+        let pair = (set.head.p, set.head.s);
+        let v = if self.once(2) { self.below(1 << pair.1) as u32 } else { marked(pair, self.below(1 << pair.0) as u32, 0) };
+        if !set.waiting.is_empty() && self.once(2) {
+            let at = self.below(set.waiting.len() as u64) as usize;
+            set.waiting[at] = v;
+            return;
+        }
+        set.kept.push(v);
+        set.kept.sort_unstable();
+        set.waiting.clear();
+        set.head = Head { kept: set.kept.len() as u64, bytes: set.head.bytes + 10, waiting: 0, ..set.head };
+    }
+
     /// One thing of a head or its memory is changed; some of these heads still fit.
     fn unfit(&mut self, set: &mut Set) {
+        if set.head.form == SPARSE && set.head.s == set.head.p && self.once(2) {
+            return self.unfit_equal(set);
+        }
         let h = &mut set.head;
         let some = |g: &mut Gen| g.one(&[0, 1, 2, 3, 21, 300, 301, 2048, 2049, 1 << 31, (1 << 31) - 1, u64::MAX]);
         match self.below(10) {
@@ -821,15 +923,15 @@ impl Gen {
             5 => h.form = self.below(3) as u8,
             6 if !set.kept.is_empty() => {
                 let at = self.below(set.kept.len() as u64) as usize;
-                set.kept[at] = self.one(&[0, 1, 1 << 25, 1 << 31, 1 << 16, u32::MAX, 1 << 12]);
+                set.kept[at] = self.unfit_value((h.p, h.s));
             }
             7 if !set.waiting.is_empty() => {
                 let at = self.below(set.waiting.len() as u64) as usize;
-                set.waiting[at] = self.one(&[0, 1, 1 << 25, 1 << 31, 1 << 16, u32::MAX, 1 << 12]);
+                set.waiting[at] = self.unfit_value((h.p, h.s));
             }
             8 if !set.registers.is_empty() => {
                 let at = self.below(set.registers.len() as u64) as usize;
-                set.registers[at] = (88 - h.p) as u8 + self.below(2) as u8;
+                set.registers[at] = (65 - h.p) as u8 + self.below(2) as u8;
             }
             _ => h.bytes = h.bytes.wrapping_sub(1),
         }
@@ -845,8 +947,9 @@ impl Gen {
             47..=52 => self.few_into_many(),
             53..=55 => self.sixteen(),
             56..=69 => self.lowered(),
-            70..=74 => self.each_damage(),
-            75 => self.many_wait(),
+            70..=73 => self.each_damage(),
+            74 => self.many_wait(),
+            75..=80 => self.equal_precisions(),
             _ => self.set(),
         }
     }

@@ -82,6 +82,24 @@ pub fn run() {
             ]),
             &[(0, 3)],
         );
+        let equal = (p, p);
+        let some: Vec<u32> = (0..40).map(|i| marked(equal, i * 200_003, 1 + i)).collect();
+        let largest = marked(equal, (1 << p) - 1, (65 - p) as u32);
+        compare(
+            &format!("lists of p = s = {p}: first, one that waits, refused ones, registers onto them, written"),
+            &lent(vec![
+                Call::Add(list(equal, &some).encode()),
+                Call::Add(list(equal, &[largest]).encode()),
+                Call::Add(list(equal, &[1]).encode()),
+                Call::Add(list(equal, &[marked(equal, 7, 0)]).encode()),
+                Call::Add(list(equal, &[largest + 1]).encode()),
+                Call::Write(400),
+                Call::Add(dense(equal, registers(p, 17, 1)).encode()),
+                Call::Add(list(equal, &[(1 << p) - 1]).encode()),
+                Call::Write((1 << p) + 64),
+            ]),
+            &[(0, 3), (20, 4)],
+        );
         let short = Script { registers: (1 << p) - 1, ..lent(vec![Call::Add(values.clone()), Call::Add(dense(pair, registers(p, 7, 0)).encode())]) };
         compare(&format!("one register byte too few at p = {p}"), &short, &[(17, 2)]);
     }

@@ -12,6 +12,8 @@ mod cases;
 mod gen;
 mod large;
 mod lent;
+#[path = "../original/lists.rs"]
+mod lists;
 #[path = "../original/model.rs"]
 mod model;
 mod readings;

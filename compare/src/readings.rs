@@ -1,4 +1,4 @@
-//! What is easily missed, by name, with the answer that document 01 gives: these go before the scripts by chance.
+//! What is easily missed, by name, with the answer that documents 01 and 02 give: these go before the scripts by chance.
 
 use crate::cases::unhex;
 use crate::gen::{dense, list, neither};
@@ -13,6 +13,7 @@ fn raw(pair: (i32, i32), bytes: &str) -> Vec<u8> {
 pub fn run(counts: &mut Counts) {
     let a = "08701002180220088207 0c 1002180a200f 320421e28004";
     let cut = |bytes: &str| raw((10, 15), bytes);
+    let equal = |bytes: &str| raw((4, 4), bytes);
     let data = |pair: (i32, i32)| dense(pair, vec![0; 1 << pair.0]).encode();
     // What the states of each case are, and the answer to each.
     let cases: Vec<Vec<(Vec<u8>, u8)>> = vec![
@@ -29,8 +30,11 @@ pub fn run(counts: &mut Counts) {
         ],
         // An empty data field in a second nested message undoes an earlier one.
         vec![(unhex("0870 1002 1802 8207 16 18042009 2a10 00000000000000000000000000000000 8207 02 2a00 8207 05 3203 010203"), 0)],
-        // Rank 0 of a listed value takes the rule with r = 0.
-        vec![(data((4, 5)), 0), (raw((5, 5), "8010"), 0)],
+        // Equal precisions: a plain value is 20 at the end of the list, m = 0 where it is read, whatever stands above the mark bit; no list, and one that has m = 1.
+        vec![(equal("0180"), 18), (equal("800880"), 20), (equal("801880"), 20), (equal("8008"), 20), (equal("01"), 20), (equal(""), 0), (equal("8108"), 0)],
+        // E9, and a marked value with m = 0 at registers.
+        vec![(unhex("0870100118028207091001180a200a320101"), 20)],
+        vec![(data((4, 5)), 0), (raw((5, 5), "8010"), 20), (raw((5, 5), "8110"), 0)],
         // The Difference: equal values; equal values in long spellings; two marked values of one index.
         vec![
             (unhex("08701014180282071c10141805200a32140400000000000000000001010101010101010101"), 0),

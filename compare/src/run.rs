@@ -1,8 +1,8 @@
-//! A script is memory, perhaps a head that is set, and calls. It is run on both sides, and after each call all is compared that document 01 determines.
+//! A script is memory, perhaps a head that is set, and calls. It is run on both sides, and after each call all is compared that documents 01 and 02 determine.
 
 use crate::cases::{hex, text};
 use crate::lent::{Lent, Side, BYTE, CELL, NUMBER};
-use crate::model::{Head, Rollup, DENSE, SPARSE, UNSTARTED};
+use crate::model::{Departure, Head, Rollup, DENSE, SPARSE, UNSTARTED};
 use original::Fields;
 use std::borrow::Cow;
 use std::panic::{catch_unwind, AssertUnwindSafe};
@@ -100,6 +100,8 @@ pub struct Counts {
     pub fold: [u64; 24],
     pub write: [u64; 24],
     pub paths: [u64; 26],
+    /// States that were refused as document 02, U3, asks: which the original accepts, and in which it finds a fault further on.
+    pub refused: [u64; 2],
     /// Written: a list, a list with values waiting, registers.
     pub written: [u64; 3],
     /// Calls of `filmoed_fold`, and those that it answered with 1 and with 100.
@@ -113,7 +115,7 @@ pub struct Counts {
 
 impl Counts {
     pub fn new() -> Counts {
-        Counts { add: [0; 24], fold: [0; 24], write: [0; 24], paths: [0; 26], written: [0; 3], folds: [0; 3], no_head: 0, add_bytes: 0, scripts: 0 }
+        Counts { add: [0; 24], fold: [0; 24], write: [0; 24], paths: [0; 26], refused: [0; 2], written: [0; 3], folds: [0; 3], no_head: 0, add_bytes: 0, scripts: 0 }
     }
 
     /// States added and roll-ups written.
@@ -131,6 +133,8 @@ impl Counts {
         for (path, n) in PATHS.iter().zip(&self.paths) {
             println!("{n:>10} {path}");
         }
+        println!("{:>10} refused as U3 asks, which the Rust accepts", self.refused[0]);
+        println!("{:>10} refused as U3 asks, in which the Rust finds a fault further on", self.refused[1]);
         for (form, n) in ["a list", "a list with values waiting", "registers"].iter().zip(&self.written) {
             println!("{n:>10} written: {form}");
         }
@@ -156,7 +160,7 @@ fn row(h: &Head) -> [u64; 10] {
 }
 
 /// The path that an accepted state took.
-fn path(before: &Head, after: &Head, f: &Fields, differs: bool) -> usize {
+fn path(before: &Head, after: &Head, f: &Fields, departure: Departure) -> usize {
     let registers = f.data.as_ref().is_some_and(|d| !d.is_empty());
     let list = f.sparse_data.as_ref().is_some_and(|l| !l.is_empty());
     let kind = if list { 0 } else if registers { 1 } else { 2 };
@@ -172,7 +176,7 @@ fn path(before: &Head, after: &Head, f: &Fields, differs: bool) -> usize {
             if after.waiting > before.waiting {
                 return 4;
             }
-            if differs {
+            if departure == Departure::Merged {
                 return if dense { 13 } else { 8 };
             }
             let k = original::decode_sparse(f.sparse_data.as_ref().unwrap(), before.p, before.s).expect("an accepted list").len() as u64;
@@ -261,7 +265,7 @@ impl Both<'_> {
         Both { model, side, odd, counts }
     }
 
-    /// All that document 01 determines.
+    /// All that documents 01 and 02 determine.
     fn compare(&self) -> Found {
         let (side, model) = (&self.side, &self.model);
         if let Some(row) = &self.odd {
@@ -299,10 +303,15 @@ impl Both<'_> {
         let before = self.model.head.clone();
         let ask = state.len() < 4096 && !state.is_empty() && self.counts.calls() % 4 == 0;
         let public = if ask { self.model.rust.clone() } else { None };
-        let (answer, differs) = self.model.add(state);
+        let (answer, departure) = self.model.add(state);
+        match departure {
+            Departure::Refused => self.counts.refused[0] += 1,
+            Departure::RefusedSooner => self.counts.refused[1] += 1,
+            Departure::None | Departure::Merged => {}
+        }
         if let Some(mut public) = public {
-            // 1, 2 and 17 are not the original's, the sketch is not run for 16, and the Difference has another list.
-            if ![1, 2, 16, 17].contains(&answer) && !differs {
+            // 1, 2 and 17 are not the original's, the sketch is not run for 16, and in a departure it does something else.
+            if ![1, 2, 16, 17].contains(&answer) && departure == Departure::None {
                 self.counts.add_bytes += 1;
                 let given = public.add_bytes(state).map_or_else(|e| original::number(&e), |()| 0);
                 same("add_bytes of the original", given, answer)?;
@@ -311,7 +320,7 @@ impl Both<'_> {
         }
         if answer == 0 {
             let f = Fields::parse(state).expect("an accepted state");
-            self.counts.paths[path(&before, &self.model.head, &f, differs)] += 1;
+            self.counts.paths[path(&before, &self.model.head, &f, departure)] += 1;
         }
         let counts = if folded { &mut self.counts.fold } else { &mut self.counts.add };
         counts[answer as usize] += 1;

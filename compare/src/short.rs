@@ -1,8 +1,9 @@
 //! Each short input: states, nested messages and lists of up to 3 bytes.
 
+use crate::cases::{marked, Pair};
 use crate::gen::{dense, list};
 use crate::lent::Side;
-use crate::model::Rollup;
+use crate::model::{Departure, Rollup};
 use crate::run::{run_guarded, Call, Counts, Script};
 
 /// A state whose outer fields are sound and that has this nested message.
@@ -10,9 +11,9 @@ fn nested(inner: &[u8]) -> Vec<u8> {
     [&[0x08, 0x70, 0x10, 0x01, 0x18, 0x02, 0x82, 0x07, inner.len() as u8], inner].concat()
 }
 
-/// A state at (4,9), of which these are the list's bytes.
-fn listed(bytes: &[u8]) -> Vec<u8> {
-    nested(&[&[0x10, 0x01, 0x18, 0x04, 0x20, 0x09, 0x32, bytes.len() as u8], bytes].concat())
+/// A state at a pair, of which these are the list's bytes.
+fn listed((p, s): Pair, bytes: &[u8]) -> Vec<u8> {
+    nested(&[&[0x10, 0x01, 0x18, p as u8, 0x20, s as u8, 0x32, bytes.len() as u8], bytes].concat())
 }
 
 fn lent(calls: Vec<Call>) -> Script {
@@ -28,12 +29,14 @@ fn each(n: usize, before: &[Vec<u8>], what: &str, state: impl Fn(&[u8]) -> Vec<u
         assert_eq!((model.add(state).0, side.add(state)), (0, 0));
     }
     let mut answers = [0u64; 24];
+    let mut refused = 0;
     for i in 0..1u64 << (8 * n) {
         let bytes = state(&i.to_le_bytes()[..n]);
         // The answer alone is cheap: a refused state changes neither, and an accepted one is compared as a script.
         let mut after = side.clone();
         let answer = after.add(&bytes);
-        let (expected, _) = if answer == 0 { (0, false) } else { model.add(&bytes) };
+        let (expected, departure) = if answer == 0 { (0, Departure::None) } else { model.add(&bytes) };
+        refused += u64::from(departure != Departure::None);
         let unchanged = answer == 0
             || after.head.get() == side.head.get()
                 && after.registers.get() == side.registers.get()
@@ -51,7 +54,8 @@ fn each(n: usize, before: &[Vec<u8>], what: &str, state: impl Fn(&[u8]) -> Vec<u
     }
     let total = answers.iter().sum();
     let shown: Vec<String> = answers.iter().enumerate().filter(|(_, n)| **n > 0).map(|(a, n)| format!("{a}: {n}")).collect();
-    println!("{total:>10} {what} of {n} bytes, after {} states: {}", before.len(), shown.join(", "));
+    let departed = if refused == 0 { String::new() } else { format!("; {refused} refused as U3 asks, where the Rust says something else") };
+    println!("{total:>10} {what} of {n} bytes, after {} states: {}{departed}", before.len(), shown.join(", "));
     total
 }
 
@@ -66,7 +70,13 @@ pub fn run(most: usize) {
                 total += each(n, &before, "states", <[u8]>::to_vec);
                 total += each(n, &before, "nested messages", nested);
             }
-            total += each(n, &before, "lists", listed);
+            total += each(n, &before, "lists at (4,9)", |bytes| listed((4, 9), bytes));
+        }
+        let pair = (4, 4);
+        let first = list(pair, &[marked(pair, 0, 61), marked(pair, 3, 1)]).encode();
+        let registers = dense(pair, vec![1; 16]).encode();
+        for before in [vec![], vec![first.clone()], vec![first, registers]] {
+            total += each(n, &before, "lists at (4,4)", |bytes| listed(pair, bytes));
         }
     }
     println!("{total} inputs, no difference");

@@ -48,6 +48,11 @@ pub fn mark((p, s): Pair) -> u32 {
     1 << s.max(p + 6)
 }
 
+/// The least m of a marked value. Document 02, U3: "With s = p, a plain value and a marked value with m = 0 now get 20."
+pub fn least_m((p, s): Pair) -> u32 {
+    u32::from(s == p)
+}
+
 /// The marked value of an index and an m.
 pub fn marked(pair: Pair, index: u32, m: u32) -> u32 {
     mark(pair) + 64 * index + m

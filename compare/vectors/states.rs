@@ -1,6 +1,6 @@
 //! States to make cases of: those of one kind, and by chance. Shared by the makers of the vectors of `rollup_cases` and `roll_cases`.
 
-use crate::cases::{marked, Chance, Pair};
+use crate::cases::{least_m, mark, marked, unhex, Chance, Pair};
 use original::Fields;
 
 /// A state with neither data nor a list.
@@ -40,6 +40,60 @@ pub fn upto(first: u32, n: u32) -> Vec<u32> {
     (first..first + n).collect()
 }
 
+/// Values at the edges of a pair. With s = p every value is marked.
+pub fn edge_values(pair: Pair) -> Vec<u32> {
+    let (p, s) = pair;
+    let plain = if s == p { vec![] } else { vec![0, 1, 9, (1 << s) - 1] };
+    [plain, vec![marked(pair, 0, 3), marked(pair, 5, least_m(pair)), marked(pair, (1 << p) - 1, (65 - s) as u32)]].concat()
+}
+
+/// Lists with s = p that are refused, and their numbers: document 02, U3.
+pub fn equal_lists(pair: Pair) -> Vec<(u8, Vec<u8>)> {
+    let flag = mark(pair);
+    let (last, most) = ((1 << pair.0) - 1, (65 - pair.1) as u32);
+    let m = |i, m| marked(pair, i, m);
+    let values = |values: &[u32]| original::encode_sparse(values);
+    let then = |values: &[u32], bytes: &str| [original::encode_sparse(values), unhex(bytes)].concat();
+    vec![
+        // A plain value: alone, before a valid one, before a cut gap and one that is too long.
+        (20, values(&[0])),
+        (20, values(&[1])),
+        (20, values(&[last])),
+        (20, values(&[last + 1])),
+        (20, values(&[flag - 1])),
+        (20, values(&[0, m(0, 1)])),
+        (20, values(&[1, 1, m(3, 1), m(4, most)])),
+        (18, then(&[1], "80")),
+        (19, then(&[1], "8080808010")),
+        (18, then(&[1, m(3, 1)], "80")),
+        // m = 0: alone, before and after a valid value, after a plain one, before a cut gap and one that is too long.
+        (20, values(&[m(0, 0)])),
+        (20, values(&[m(last, 0)])),
+        (20, values(&[m(0, 0), m(0, 1)])),
+        (20, values(&[m(0, 1), m(1, 0)])),
+        (20, values(&[1, m(1, 0)])),
+        (20, then(&[m(1, 0)], "80")),
+        (20, then(&[m(1, 0)], "8080808010")),
+        (20, then(&[m(0, 1), m(1, 0)], "80")),
+        (20, then(&[1, m(1, 0)], "80")),
+        // m above 65-s.
+        (20, values(&[m(3, most + 1)])),
+        (20, then(&[m(3, most + 1)], "80")),
+        (20, then(&[1, m(3, 63)], "8080808010")),
+        // Bits above the mark: the mark bit set and m = 0, m in range, m above; the mark bit clear.
+        (20, then(&[3 * flag], "80")),
+        (18, then(&[3 * flag + 1], "80")),
+        (20, then(&[3 * flag + most + 1], "80")),
+        (18, then(&[2 * flag], "80")),
+        (20, values(&[m(0, 1), 3 * flag + 1])),
+        (20, values(&[2 * flag + 1])),
+        // A sum that wraps, a cut gap and one that is too long behind a valid value.
+        (20, then(&[m(1, 1)], "ffffffff0f 80")),
+        (18, then(&[m(1, 1)], "80")),
+        (19, then(&[m(1, 1)], "8080808010 80")),
+    ]
+}
+
 // ---- by chance
 
 pub fn some_pair(chance: &mut Chance) -> Pair {
@@ -49,9 +103,10 @@ pub fn some_pair(chance: &mut Chance) -> Pair {
 
 pub fn some_value(chance: &mut Chance, (p, s): Pair) -> u32 {
     let few = 1 + chance.below(12);
-    if chance.below(2) == 0 {
+    if s == p || chance.below(2) == 0 {
         let index = chance.below(few.min(1 << p)) as u32;
-        return marked((p, s), index, chance.below((66 - s) as u64) as u32);
+        let least = least_m((p, s));
+        return marked((p, s), index, least + chance.below((66 - s) as u64 - u64::from(least)) as u32);
     }
     let v = chance.below((few * few * 4).min(1 << s)) as u32;
     if chance.below(3) == 0 { v >> (s - p) << (s - p) } else { v }

@@ -1,10 +1,12 @@
 //! Makes the cases of `crates/lists_cases` and what must be printed for each. The answers are those of the Rust original:
-//! `encoding.rs` with `proto.rs` beside it, and three functions taken out of `accumulator.rs`. Where document 01 gives the
+//! `encoding.rs` with `proto.rs` beside it, and three functions taken out of `accumulator.rs`. Which values and lists are valid is worked
+//! out in `lists.rs` from documents 01 and 02, and the original says the same but where s = p. Where a document gives the
 //! answer, it stands here as an expectation, and a difference stops the run.
 
 mod cases;
 #[allow(dead_code)]
 mod encoding;
+mod lists;
 #[allow(dead_code)]
 mod proto;
 mod stand_in;
@@ -26,7 +28,7 @@ mod taken {
     }
 }
 
-use cases::{hex, mark, marked, text, unhex, Cases, Chance, Pair};
+use cases::{hex, least_m, mark, marked, text, unhex, Cases, Chance, Pair};
 use encoding::{Normal, Sparse};
 use stand_in::error::{self, Error};
 use std::collections::BTreeSet;
@@ -41,20 +43,37 @@ fn number(e: &Error) -> u8 {
     }
 }
 
-// ---- the original's answers
+// ---- the answers: the original's, and where s = p those of documents 01 and 02 to what the original takes beside valid lists
+
+fn original_list((p, s): Pair, bytes: &[u8]) -> Result<Vec<u32>, u8> {
+    let mut out = Vec::new();
+    encoding::decode_validated_into(bytes, Sparse::new(p, s), &mut out).map(|()| out).map_err(|e| number(&e))
+}
 
 fn decode_answer((p, s): Pair, bytes: &[u8]) -> String {
-    let mut out = Vec::new();
-    match encoding::decode_validated_into(bytes, Sparse::new(p, s), &mut out) {
-        Ok(()) => text(&out),
-        Err(e) => format!("refused {}", number(&e)),
+    let read = lists::decode((p, s), bytes);
+    if read.is_ok() || s > p {
+        assert_eq!(read, original_list((p, s), bytes), "{} at ({p},{s})", hex(bytes));
     }
+    match read {
+        Ok(list) => text(&list),
+        Err(n) => format!("refused {n}"),
+    }
+}
+
+fn is_valid((p, s): Pair, v: u32) -> bool {
+    let valid = lists::is_valid((p, s), v);
+    if valid || s > p {
+        assert_eq!(valid, Sparse::new(p, s).is_valid(v), "{v} at ({p},{s})");
+    }
+    valid
 }
 
 fn value_answer((p, s): Pair, v: u32) -> String {
     let enc = Sparse::new(p, s);
-    let mut answer = format!("{} {}", u8::from(enc.is_rho_encoded(v)), u8::from(enc.is_valid(v)));
-    if enc.is_valid(v) {
+    let valid = is_valid((p, s), v);
+    let mut answer = format!("{} {}", u8::from(enc.is_rho_encoded(v)), u8::from(valid));
+    if valid {
         answer += &format!(" {} {} {}", enc.decode_sparse_index(v), enc.decode_normal_index(v), enc.decode_normal_rho_w(v));
         for q in (4..p).rev() {
             let to = Normal { precision: q };
@@ -102,16 +121,17 @@ impl Made {
     /// A valid value; indices below `few`, so that some meet, and low bits that are zero now and then.
     fn valid(&mut self, pair: Pair, few: u64) -> u32 {
         let (p, s) = pair;
-        let v = if self.chance.below(2) == 0 {
+        let v = if s == p || self.chance.below(2) == 0 {
             let index = self.chance.below(few.min(1 << p)) as u32;
             let index = if self.chance.below(2) == 0 { index } else { (1 << p) - 1 - index };
-            marked(pair, index, self.chance.below((66 - s) as u64) as u32)
+            let least = least_m(pair);
+            marked(pair, index, least + self.chance.below((66 - s) as u64 - u64::from(least)) as u32)
         } else {
             let v = self.chance.below((few * 4).min(1 << s)) as u32;
             let v = if self.chance.below(3) == 0 { v } else { (1 << s) - 1 - v };
             if self.chance.below(3) == 0 { v >> (s - p) << (s - p) } else { v }
         };
-        assert!(Sparse::new(p, s).is_valid(v), "{v} at {pair:?}");
+        assert!(is_valid(pair, v), "{v} at {pair:?}");
         v
     }
 
@@ -235,13 +255,16 @@ impl Made {
 // ---- cases
 
 fn examples(made: &mut Made) {
-    made.all.remark("Document 01, E1 to E4: 33 is register 1, rank 5; 65667 is register 2, rank 8, lowers to 1:9 and 0:1. E9: plain 1 has rank 64");
+    made.all.remark("Document 01, E1 to E4: 33 is register 1, rank 5; 65667 is register 2, rank 8, lowers to 1:9 and 0:1. E9 by document 02: plain 1 is a refused list");
     let e1 = made.value((10, 15), 33);
     assert!(e1.starts_with("0 1 33 1 5 "), "{e1}");
     let e2 = made.value((10, 15), 65667);
     assert!(e2.starts_with("1 1 64 2 8 1:9 0:1 "), "{e2}");
-    let e9 = made.value((10, 10), 1);
-    assert!(e9.starts_with("0 1 1 1 64 "), "{e9}");
+    // The original takes it, and gives it rank 64.
+    assert_eq!(original_list((10, 10), &[1]), Ok(vec![1]));
+    assert_eq!(Sparse::new(10, 10).decode_normal_rho_w(1), 64);
+    assert_eq!(made.value((10, 10), 1), "0 0");
+    made.told((10, 10), "01", "refused 20");
     made.all.remark("E5, E6, E8: the gap 65634, the lengths of 127 and 128, fifth bytes 0f and 10");
     assert_eq!(made.encode(&[33, 65667]), "4 21e28004");
     assert_eq!((made.gap(127), made.gap(128)), (1, 2));
@@ -273,9 +296,24 @@ fn values(made: &mut Made) {
     }
     made.value((4, 4), u32::MAX);
     made.value((24, 25), u32::MAX - (1 << 30));
-    made.all.remark("Equal precisions: rank 0 is marked with m = 0, and each plain value has a rank of its own");
-    for v in [0, 1, 2, 8, 15, 1024, 1025, 1024 + 61, 1024 + 62] {
+    made.all.remark("Equal precisions: no value is plain, m is 1 to 65-s, and it is the rank. Bits above the mark, with the mark bit clear and set");
+    for v in [0, 1, 2, 8, 15, 16, 1023, 1024, 1025, 1024 + 61, 1024 + 62, 1024 + 63, 1088, 1089, 1984, 1985, 2045, 2046, 2047, 2048, 2049, 3072, 3073] {
         made.value((4, 4), v);
+    }
+    for pair in [(5, 5), (10, 10), (24, 24)] {
+        let (p, s) = pair;
+        let (last, most) = ((1 << p) - 1, (65 - s) as u32);
+        for (index, m) in [(0, 0), (0, 1), (6, 0), (6, 1), (7, 2), (last, 0), (last, 1), (last, most), (last, most + 1)] {
+            let answer = made.value(pair, marked(pair, index, m));
+            let rank = answer.split(' ').nth(4).map(|r| r.parse().expect("a rank"));
+            assert_eq!(rank, if m == 0 || m > most { None } else { Some(m) });
+        }
+    }
+    made.all.remark("The neighbours, where s is p+1: 0, plain values and m = 0 are valid");
+    for pair in [(4, 5), (10, 11), (24, 25)] {
+        for v in [0, 1, (1 << pair.1) - 1, mark(pair), marked(pair, 1, 0)] {
+            assert!(made.value(pair, v).starts_with(if v < mark(pair) { "0 1 " } else { "1 1 " }));
+        }
     }
 }
 
@@ -293,10 +331,6 @@ fn decoding(made: &mut Made) {
     }
     for list in [vec![marked(pair, 3, 0), marked(pair, 3, 0), marked(pair, 3, 7), marked(pair, 3, 50)], vec![96, marked(pair, 3, 7)], vec![5, 5, 5, 32767, marked(pair, 1023, 50)]] {
         made.decode_list(pair, &list);
-    }
-    made.all.remark("Equal precisions");
-    for list in [vec![0, 1, 1023, 65536], vec![1, marked((10, 10), 1, 0), marked((10, 10), 1, 55)], vec![1024], vec![marked((10, 10), 1, 56)]] {
-        made.decode_list((10, 10), &list);
     }
     made.all.remark("Each front of a list, cut gaps");
     let list = encoding::encode_sparse(&[33, 300, 32767, marked(pair, 600, 4)]);
@@ -340,6 +374,151 @@ fn decoding(made: &mut Made) {
         let pair = made.pair();
         let bytes: Vec<u8> = (0..1 + n / 3).map(|_| if made.chance.below(2) == 0 { made.chance.byte() } else { made.chance.byte() & 0x7f }).collect();
         made.decode(pair, &bytes);
+    }
+}
+
+/// A fault that a list with s = p can have.
+#[derive(Clone, Copy, PartialEq, Debug)]
+enum Fault {
+    /// A plain value.
+    Plain,
+    /// A marked value with m = 0.
+    Zero,
+    /// A marked value with m above 65-s.
+    Above,
+    /// A value with a bit above the mark, the mark bit clear.
+    Past,
+    /// The same with the mark bit set, and an m that is in range.
+    PastMarked,
+    /// A sum below the last one.
+    Descends,
+    /// A gap that the list's end cuts off.
+    Cut,
+    /// A gap whose fifth byte has a bit of f0.
+    Long,
+}
+
+const FAULTS: [Fault; 8] = [Fault::Plain, Fault::Zero, Fault::Above, Fault::Past, Fault::PastMarked, Fault::Descends, Fault::Cut, Fault::Long];
+
+/// The bytes of a gap.
+fn gap(v: u32) -> Vec<u8> {
+    encoding::encode_sparse(&[v])
+}
+
+impl Fault {
+    /// The bytes of the fault behind the value `last`, and the value that they lead to. None where no bytes have it.
+    fn bytes(self, pair: Pair, last: u32) -> Option<(Vec<u8>, u32)> {
+        // The next marked value with m = 0, with a bit above the mark where the last value has one.
+        let next = (if last < 2 * mark(pair) { 1 } else { 3 }) * mark(pair) + 64 + last % mark(pair) / 64 * 64;
+        let v = match self {
+            Fault::Plain => last + 1,
+            Fault::Zero => next,
+            Fault::Above => next + (66 - pair.1) as u32,
+            Fault::Past => 2 * mark(pair) + 1,
+            Fault::PastMarked => 3 * mark(pair) + 1,
+            Fault::Descends => return Some((gap(u32::MAX), last.checked_sub(1)?)),
+            Fault::Cut => return Some((vec![0x80, 0x80], last)),
+            Fault::Long => return Some((unhex("8080808010"), last)),
+        };
+        let follows = v >= last && (self != Fault::Plain || v < 1 << pair.1);
+        follows.then(|| (gap(v - last), v))
+    }
+
+    /// Its number, and whether it is given where it is read.
+    fn number(self) -> (u8, bool) {
+        match self {
+            Fault::Plain | Fault::Past | Fault::PastMarked => (20, false),
+            Fault::Zero | Fault::Above | Fault::Descends => (20, true),
+            Fault::Cut => (18, true),
+            Fault::Long => (19, true),
+        }
+    }
+}
+
+/// The answer to a list with these faults: the first that is refused where it is read, else 20 at the end.
+fn first_of(faults: &[Fault]) -> u8 {
+    faults.iter().map(|f| f.number()).find(|(_, here)| *here).map_or(20, |(n, _)| n)
+}
+
+fn equal_precisions(made: &mut Made) {
+    made.all.remark("Equal precisions (document 02, U3): each fault as the only value, before a valid one, after one, between two");
+    for pair in [(4, 4), (5, 5), (10, 10), (24, 24)] {
+        let (first, second) = (marked(pair, 0, 1), marked(pair, (1 << pair.0) - 1, (65 - pair.1) as u32));
+        for fault in FAULTS {
+            for (before, after) in [(false, false), (false, true), (true, false), (true, true)] {
+                let last = if before { first } else { 0 };
+                let Some((bytes, v)) = fault.bytes(pair, last) else { continue };
+                // A valid value follows where it is no smaller; what stands behind a cut gap would be part of it.
+                if after && (v > second || fault == Fault::Cut) {
+                    continue;
+                }
+                let list = [if before { gap(first) } else { vec![] }, bytes, if after { gap(second - v) } else { vec![] }].concat();
+                made.told(pair, &hex(&list), &format!("refused {}", fault.number().0));
+            }
+        }
+    }
+    made.all.remark("Two faults, each with each and in both orders, alone and behind a valid value: 18, 19 and what the mark bit decides come where they are read, a plain value at the end");
+    for pair in [(4, 4), (10, 10)] {
+        for start in [0, marked(pair, 0, 1)] {
+            for one in FAULTS {
+                for two in FAULTS {
+                    let Some((bytes, v)) = one.bytes(pair, start) else { continue };
+                    let Some((more, _)) = two.bytes(pair, v) else { continue };
+                    // A cut gap takes what follows into itself.
+                    if one == Fault::Cut {
+                        continue;
+                    }
+                    let list = [if start == 0 { vec![] } else { gap(start) }, bytes, more].concat();
+                    made.told(pair, &hex(&list), &format!("refused {}", first_of(&[one, two])));
+                }
+            }
+        }
+    }
+    made.all.remark("Plain 0 as a gap of 0, alone and repeated, before a marked value, and before a cut gap; long spellings of it");
+    for (list, answer) in [("00", "refused 20"), ("0000", "refused 20"), ("00 8108", "refused 20"), ("00 80", "refused 18"), ("8000", "refused 20"), ("8080808000", "refused 20"), ("0f", "refused 20"), ("10", "refused 20"), ("ff07", "refused 20")] {
+        made.told((4, 4), list, answer);
+    }
+    made.all.remark("m = 0 with bits above the mark: where the mark bit is set it is refused where it is read, else at the end");
+    for (list, answer) in [("0180", "refused 18"), ("800880", "refused 20"), ("801880", "refused 20"), ("801080", "refused 18"), ("811880", "refused 18"), ("be1880", "refused 20"), ("8018", "refused 20"), ("8118", "refused 20"), ("8010", "refused 20")] {
+        made.told((4, 4), list, answer);
+    }
+    made.all.remark("Valid lists: no value, m at both ends, every index, repeats and zero gaps, several m of one index, long spellings");
+    made.told((4, 4), "", ".");
+    made.told((4, 4), "8108", "1025");
+    made.told((4, 4), "bd08", "1085");
+    made.told((4, 4), "fd0f", "2045");
+    made.told((4, 4), "818880808000", "refused 19");
+    made.told((4, 4), "8188808000 00 01 8000 be00", "refused 20");
+    made.told((4, 4), "8188808000 00 01 8000 bf80808000", "1025,1025,1026,1026,1089");
+    for pair in [(4, 4), (5, 5), (10, 10), (24, 24)] {
+        let (last, most) = ((1 << pair.0) - 1, (65 - pair.1) as u32);
+        for list in [vec![(0, 1), (last, most)], vec![(3, 1), (3, 1), (3, 7), (3, most), (4, 1)], vec![(last, 1), (last, most), (last, most)]] {
+            let list: Vec<u32> = list.into_iter().map(|(i, m)| marked(pair, i, m)).collect();
+            made.told(pair, &hex(&encoding::encode_sparse(&list)), &text(&list));
+        }
+    }
+    made.decode_list((4, 4), &(0..16).map(|i| marked((4, 4), i, 1 + 4 * i)).collect::<Vec<_>>());
+    made.all.remark("Each front of a valid list; each bit of one turned over");
+    let list = encoding::encode_sparse(&[marked((4, 4), 0, 1), marked((4, 4), 9, 61)]);
+    for n in 0..list.len() {
+        made.decode((4, 4), &list[..n]);
+    }
+    for at in 0..list.len() {
+        for bit in 0..8 {
+            let mut bytes = list.clone();
+            bytes[at] ^= 1 << bit;
+            made.decode((4, 4), &bytes);
+        }
+    }
+    made.all.remark("The same lists where s is p+1: plain values and m = 0 are read");
+    for pair in [(4, 5), (10, 11), (24, 25)] {
+        let m = |i, m| marked(pair, i, m);
+        for list in [vec![0], vec![1], vec![0, 0, 1], vec![m(0, 0)], vec![1, m(1, 0), m(1, 1)], vec![(1 << pair.1) - 1, m((1 << pair.0) - 1, (65 - pair.1) as u32)]] {
+            made.told(pair, &hex(&encoding::encode_sparse(&list)), &text(&list));
+        }
+        for (list, answer) in [(vec![1], 18), (vec![m(0, 0)], 18), (vec![m(0, (66 - pair.1) as u32)], 20), (vec![3 * mark(pair)], 18)] {
+            made.told(pair, &hex(&[encoding::encode_sparse(&list), vec![0x80]].concat()), &format!("refused {answer}"));
+        }
     }
 }
 
@@ -400,7 +579,7 @@ fn merging(made: &mut Made) {
         }
     }
     let p10 = |index, m| marked((10, 10), index, m);
-    made.merge((10, 10), &[1, p10(1, 0)], &[1, 2, p10(1, 55), p10(2, 0)]);
+    made.merge((10, 10), &[p10(0, 7), p10(1, 1)], &[p10(0, 7), p10(1, 55), p10(2, 1)]);
     made.all.remark("Lists by chance: of few indices, then of many");
     for n in 0..24 {
         let pair = made.pair();
@@ -420,7 +599,7 @@ fn merging(made: &mut Made) {
     }
     made.insert(pair, &[m(1, 0), m(1, 62 - 15), m(2, 0)], &[m(1, 48)], 0);
     made.insert(pair, &[100, 300, 16683], &[172, 173], 0);
-    made.insert((10, 10), &[1, p10(1, 0), p10(3, 0)], &[0, 1, 2, p10(1, 55), p10(2, 0)], 1000);
+    made.insert((10, 10), &[p10(0, 7), p10(1, 1), p10(3, 1)], &[p10(0, 2), p10(0, 7), p10(1, 55), p10(2, 1)], 1000);
     for n in 0..20 {
         let pair = made.pair();
         let few = if n < 14 { 3 } else { 1 << 25 };
@@ -434,7 +613,7 @@ fn merging(made: &mut Made) {
     for (a, b) in &sets {
         made.count(pair, &merged(pair, a, b).0);
     }
-    made.count((10, 10), &[1, 2, p10(1, 0), p10(3, 1)]);
+    made.count((10, 10), &[p10(1, 1), p10(1, 9), p10(2, 55), p10(3, 1)]);
     for n in 0..14 {
         let pair = if n % 2 == 0 { (4 + n as i32 % 3, 6) } else { made.pair() };
         let list = made.list(pair, 3 + n, 4);
@@ -448,9 +627,15 @@ fn registers(made: &mut Made) {
     made.set((4, 9), 4, &[0; 16], &[0]);
     made.set((4, 9), 4, &[9; 16], &[0, 33, 511, marked((4, 9), 1, 56), marked((4, 9), 15, 0)]);
     made.set((4, 9), 4, &[3; 17], &[511, marked((4, 9), 15, 56)]);
-    made.all.remark("A listed value of rank 0: its register stays 0, and one bit lower it is 1");
-    assert!(made.set((5, 5), 5, &[0; 32], &[2048]).ends_with(" 0 0"));
-    assert!(made.set((5, 5), 4, &[0; 16], &[2048]).ends_with(" 1 1"));
+    made.all.remark("Equal precisions: the rank is m, and one bit lower it is m+1 at an even index, 1 at an odd one");
+    let p5 = |index, m| marked((5, 5), index, m);
+    assert!(made.set((5, 5), 5, &[0; 32], &[p5(0, 1)]).ends_with(" 1 1"));
+    assert!(made.set((5, 5), 4, &[0; 16], &[p5(0, 1)]).ends_with(" 1 2"));
+    assert!(made.set((5, 5), 5, &[0; 32], &[p5(31, 60)]).ends_with(" 1 60"));
+    assert!(made.set((5, 5), 4, &[0; 16], &[p5(31, 60)]).ends_with(" 1 1"));
+    assert!(made.set((5, 5), 4, &[0; 16], &[p5(30, 60)]).ends_with(" 1 61"));
+    made.set((4, 4), 4, &[9; 17], &[marked((4, 4), 0, 1), marked((4, 4), 7, 10), marked((4, 4), 15, 61)]);
+    made.set((24, 24), 4, &[0; 16], &[marked((24, 24), 0, 1), marked((24, 24), 3 << 20, 41), marked((24, 24), (1 << 24) - 1, 41)]);
     made.all.remark("Lists by chance, at their own precision and lower");
     for p in 4..=24 {
         let pair = (p, p + made.chance.below((26 - p) as u64) as i32);
@@ -468,7 +653,7 @@ fn registers(made: &mut Made) {
     made.larger(4, 4, &[255; 16], &[0; 17]);
     for (p, q) in [(5, 4), (6, 5), (6, 4), (7, 4), (8, 4), (5, 3), (4, 0)] {
         for often in [1, 4, 40] {
-            let (a, b) = (made.registers(p, (88 - p) as u64, often), made.registers(q, 8, 4));
+            let (a, b) = (made.registers(p, (65 - p) as u64, often), made.registers(q, 8, 4));
             made.larger(p, q, &a, &b);
         }
     }
@@ -477,7 +662,7 @@ fn registers(made: &mut Made) {
     made.all.remark("Lowered where they lie");
     for (p, q) in [(4, 4), (5, 4), (6, 5), (6, 4), (7, 4), (5, 3), (4, 0)] {
         for often in [1, 4, 30] {
-            let a = made.registers(p, (88 - p) as u64, often);
+            let a = made.registers(p, (65 - p) as u64, often);
             made.lower(p, q, &a);
         }
     }
@@ -494,6 +679,7 @@ fn main() {
     examples(&mut made);
     values(&mut made);
     decoding(&mut made);
+    equal_precisions(&mut made);
     writing(&mut made);
     sorting(&mut made);
     merging(&mut made);

@@ -1,14 +1,17 @@
 //! Makes the cases of `crates/roll_cases` and what must be printed for each: batches. The states' answers, p, s, the value count, the registers and
 //! the written bytes are those of the Rust original (`compare/original`). What it has no counterpart of is worked out here from document 01: the
-//! chain with questions 24 and 25, the lent sizes with question 17, questions 21 and 22, and the merge that "Difference" asks for. Where a
-//! document gives an answer, it stands here as an expectation, and another answer stops the run.
+//! chain with questions 24 and 25, the lent sizes with question 17, questions 21 and 22, and the merge that "Difference" asks for; and in `model.rs` the lists with
+//! s = p that document 02, U3, refuses. Where a document gives an answer, it stands here as an expectation, and another answer stops the run.
 
 mod cases;
+mod lists;
+#[allow(dead_code)]
+mod model;
 mod states;
 
 use cases::{hex, mark, marked, unhex, Cases, Chance, Pair};
 use original::{Accumulator, Fields, Probe};
-use states::{damaged, dense, neither, raw, registers, some_list, some_pair, some_registers, spelled, upto};
+use states::{damaged, dense, edge_values, equal_lists, neither, raw, registers, some_list, some_pair, some_registers, spelled, upto};
 use std::collections::BTreeMap;
 
 const UNSTARTED: u8 = 0;
@@ -110,6 +113,8 @@ struct Rolled {
     text: String,
     answers: Vec<u8>,
     paths: Vec<String>,
+    /// How many states were refused as document 02, U3, asks, where the original says something else.
+    departures: usize,
     /// 0 where the chain ends with an index of zero, else 24 or 25.
     ending: u8,
     /// The four closing numbers.
@@ -138,15 +143,17 @@ impl Rolled {
     /// The answer to a state, which is added where it is accepted.
     fn add(&mut self, rust: &mut Accumulator, state: &[u8]) -> u8 {
         let mut after = rust.clone();
-        let answer = original::add(&mut after, state);
-        if answer != 0 && answer < 17 {
-            return answer;
+        let said = original::add(&mut after, state);
+        if said != 0 && said < 17 {
+            return said;
         }
         let f = Fields::parse(state).expect("a state that was read");
         let x = rust.probe();
         if !has_room(&x, &f) {
             return 17;
         }
+        let (answer, departure) = model::listed(&f, said);
+        self.departures += usize::from(departure != model::Departure::None);
         if answer != 0 {
             return answer;
         }
@@ -304,6 +311,7 @@ struct Made {
     chance: Chance,
     answers: BTreeMap<u8, usize>,
     paths: BTreeMap<String, usize>,
+    departures: usize,
 }
 
 impl Made {
@@ -321,6 +329,7 @@ impl Made {
             *self.answers.entry(*n).or_default() += 1;
         }
         *self.answers.entry(0).or_default() += rolled.answers.iter().filter(|n| **n == 0).count();
+        self.departures += rolled.departures;
         for p in &rolled.paths {
             *self.paths.entry(p.clone()).or_default() += 1;
         }
@@ -582,7 +591,7 @@ fn lent(made: &mut Made) {
     let m = |i: u32, n: u32| marked((16, 25), i, n);
     let wide = list((16, 25), &[0, 1 << 24, (1 << 25) - 1, m(0, 0), m(7, 40), m(65535, 0), m(65535, 40)]);
     made.taken(&[wide.clone(), list((16, 25), &[5, m(65535, 3)]), wide.clone()]);
-    made.taken(&[list((16, 16), &[0, 1, 65535, marked((16, 16), 9, 0), marked((16, 16), 10, 49)]), neither((16, 16)).encode()]);
+    made.taken(&[list((16, 16), &[marked((16, 16), 0, 1), marked((16, 16), 9, 1), marked((16, 16), 65535, 49)]), neither((16, 16)).encode()]);
     for p in [17, 18, 24] {
         made.answered(&[neither((p, 25)).encode(), list((p, 25), &[3]), list((16, 25), &[3])], &[17, 17, 0]);
         made.taken(&[dense((4, 25), &registers(4, &[(3, 9)])).encode(), neither((p, 25)).encode(), list((p, 25), &[3, 1 << 20, (1 << 25) - 1])]);
@@ -662,12 +671,17 @@ fn paths(made: &mut Made) {
         made.taken(&[list(pair, &upto(0, 3)), list(pair, &[3, 4]), list(pair, &upto(5, k))]);
     }
     made.all.remark("Waiting + k is 2048, and 2049, at p = 14");
-    let many = |n: usize| raw((14, 14), n as i32, &vec![1; n]).encode();
-    made.taken(&[many(1), many(1024), many(1024)]);
-    let rolled = made.taken(&[many(1), many(1024), many(1023)]);
-    assert_eq!(rolled.waiting, 2047);
-    made.taken(&[many(1), many(1024), many(1024), list((14, 14), &[9])]);
-    made.taken(&[list((14, 14), &[5000]), many(2049), list((14, 14), &[6000])]);
+    let plain = |n: usize| raw((14, 15), n as i32, &vec![1; n]).encode();
+    let all_marked = |n: usize| raw((14, 14), n as i32, &[unhex("818040"), vec![64; n - 1]].concat()).encode();
+    let many: [&dyn Fn(usize) -> Vec<u8>; 2] = [&plain, &all_marked];
+    let one = |pair: Pair, i: u32| list(pair, &[if pair.0 == pair.1 { marked(pair, i, 1) } else { i }]);
+    for (many, pair) in many.into_iter().zip([(14, 15), (14, 14)]) {
+        made.taken(&[many(1), many(1024), many(1024)]);
+        let rolled = made.taken(&[many(1), many(1024), many(1023)]);
+        assert_eq!(rolled.waiting, 2047);
+        made.taken(&[many(1), many(1024), many(1024), one(pair, 9)]);
+        made.taken(&[one(pair, 5000), many(2049), one(pair, 6000)]);
+    }
     made.all.remark("Difference: kept holds equal values or two marked values of one index");
     made.taken(&[list(pair, &[vec![4; 10], upto(5, 10)].concat()), list(pair, &[16])]);
     made.taken(&[raw((4, 9), 1, &[unhex("8100"), [0x80, 0x00].repeat(9), vec![0; 6]].concat()).encode(), list((4, 9), &[2])]);
@@ -730,7 +744,7 @@ fn registers_of_all_kinds(made: &mut Made) {
     let p5 = registers(5, &[(0, 60), (1, 1), (4, 2), (8, 7), (31, 5)]);
     let p4 = registers(4, &[(0, 1), (7, 61), (15, 2)]);
     let d = |pair: Pair, r: &[u8]| dense(pair, r).encode();
-    let l = |pair: Pair| list(pair, &[0, 1, 9, (1 << pair.1) - 1, marked(pair, 0, 3), marked(pair, 5, 0), marked(pair, (1 << pair.0) - 1, (65 - pair.1) as u32)]);
+    let l = |pair: Pair| list(pair, &edge_values(pair));
     let n = |pair: Pair| neither(pair).encode();
     made.all.remark("Unlike precisions, both ways: registers with registers, with a list, with neither");
     for (x, y, z) in [(d((6, 11), &p6), d((5, 10), &p5), d((4, 9), &p4)), (d((6, 11), &p6), l((5, 10)), l((4, 4))), (d((6, 11), &p6), n((5, 12)), n((4, 4)))] {
@@ -752,28 +766,60 @@ fn registers_of_all_kinds(made: &mut Made) {
     }
     made.taken(&[d((4, -3), &p4)]);
     made.taken(&[d((4, -3), &p4), list((4, 9), &[3]), n((5, 5))]);
-    made.all.remark("Ranks of zero are no listeners: m = 0 with s = p, and registers that are zero");
-    let rolled = made.taken(&[list((4, 4), &[marked((4, 4), 3, 0)])]);
-    assert_eq!(rolled.closing, (4, 4, 1, 0));
-    let rolled = made.taken(&[list((4, 4), &[2, marked((4, 4), 3, 0), marked((4, 4), 9, 1)])]);
-    assert_eq!(rolled.closing.3, 2);
-    let rolled = made.taken(&[list((4, 4), &[0])]);
-    assert_eq!(rolled.closing.3, 1);
-    let rolled = made.taken(&[list((4, 4), &[marked((4, 4), 3, 0)]), d((4, 4), &[0; 16])]);
-    assert_eq!(rolled.closing.3, 0);
-    let rolled = made.taken(&[list((6, 6), &[marked((6, 6), 3, 0)]), list((6, 6), &[marked((6, 6), 4, 0), marked((6, 6), 5, 9)])]);
-    assert_eq!((rolled.closing.3, rolled.waiting), (1, 2));
+    made.all.remark("Registers that are zero are no listeners");
     made.taken(&[d((4, 9), &[0; 16])]);
     made.taken(&[d((4, 9), &[0; 16]), d((5, 9), &[0; 32])]);
-    let rolled = made.taken(&[d((4, 5), &[0; 16]), raw((5, 5), 1, &unhex("8010")).encode()]);
-    assert_eq!(rolled.closing.3, 1);
-    let rolled = made.taken(&[d((5, 5), &[0; 32]), raw((5, 5), 1, &unhex("8010")).encode(), d((4, 5), &[0; 16])]);
-    assert_eq!(rolled.closing.3, 0);
     made.all.remark("The count is of registers, not of values: two values of a register, a plain and a marked one of an index, repeats");
     for (values, want) in [(vec![32, 33, 63], 1), (vec![32, marked((10, 15), 1, 0)], 1), (vec![5, 5, 5], 1), (vec![0, 31, 32], 2), (vec![marked((10, 15), 7, 1), marked((10, 15), 7, 2)], 1)] {
         assert_eq!(made.taken(&[list((10, 15), &values)]).closing.3, want);
         let rolled = made.taken(&[list((10, 15), &values), list((10, 15), &values)]);
         assert_eq!((rolled.closing.3, rolled.waiting), (want, values.len()));
+    }
+}
+
+fn equal_precisions(made: &mut Made) {
+    made.all.remark("Document 02, U3: with s = p a plain value is 20 at the end of the list, and m = 0 where it is read. Each list alone, at a list, at registers, and all in one batch");
+    let e9 = unhex("0870100118028207091001180a200a320101");
+    made.answered(&[e9.clone()], &[20]);
+    made.answered(&[list((10, 10), &[marked((10, 10), 7, 1)]), e9.clone()], &[0, 20]);
+    made.answered(&[dense((4, 4), &[0; 16]).encode(), e9], &[0, 20]);
+    for pair in [(4, 4), (5, 5), (10, 10), (16, 16)] {
+        let good = list(pair, &[marked(pair, 1, 1), marked(pair, 7, 9)]);
+        let state = |bytes: &[u8]| raw(pair, 1, bytes).encode();
+        let zeros = dense((4, 4), &[0; 16]).encode();
+        let m = |i, m| marked(pair, i, m);
+        let accepted = [vec![m(0, 1), m(2, 1), m(2, (65 - pair.1) as u32)], vec![m(2, 1), m(2, 1), m((1 << pair.0) - 1, 1)], vec![]];
+        let lists: Vec<(u8, Vec<u8>)> = equal_lists(pair).into_iter().chain(accepted.map(|l| (0, original::encode_sparse(&l)))).collect();
+        for (n, bytes) in &lists {
+            made.answered(&[state(bytes)], &[*n]);
+            let rolled = made.answered(&[good.clone(), state(bytes), good.clone()], &[0, *n, 0]);
+            assert!(*n == 0 || (rolled.closing.2, rolled.closing.3) == (4, 2));
+            made.answered(&[zeros.clone(), state(bytes)], &[0, *n]);
+        }
+        let (want, states): (Vec<u8>, Vec<Vec<u8>>) = lists.iter().map(|(n, bytes)| (*n, state(bytes))).unzip();
+        made.answered(&states, &want);
+    }
+    made.all.remark("At (24,24) and (17,17), for which roll lends no registers, 17 comes before; at registers of a smaller p it does not");
+    for p in [17, 24] {
+        let state = |v: u32| list((p, p), &[v]);
+        let m = |i, m| marked((p, p), i, m);
+        made.answered(&[state(1), state(m(0, 0)), state(m(0, 1))], &[17, 17, 17]);
+        made.answered(&[dense((4, 4), &[0; 16]).encode(), state(1), state(m(0, 0)), state(m(0, 1)), state(m((1 << p) - 1, (65 - p) as u32))], &[0, 20, 20, 0, 0]);
+    }
+    made.all.remark("Where s is p+1, plain values and m = 0 are accepted as before");
+    for pair in [(4, 5), (10, 11), (16, 17)] {
+        let rolled = made.taken(&[list(pair, &[0, 2]), list(pair, &[marked(pair, 1, 0)]), list(pair, &[marked(pair, 3, 0), marked(pair, 3, 1)])]);
+        assert_eq!(rolled.closing.3, 3);
+    }
+    made.taken(&[dense((4, 5), &[0; 16]).encode(), list((24, 25), &[0, 1, marked((24, 25), 0, 0)])]);
+    made.all.remark("Ranks: the rank is m, and lowered it is m+1 at an even index and 1 at an odd one; registers of 65-p are written, and read again");
+    let m = |i, m| marked((5, 5), i, m);
+    for values in [vec![m(0, 1)], vec![m(1, 1)], vec![m(0, 60), m(1, 60), m(30, 60), m(31, 60)]] {
+        let rolled = made.taken(&[list((5, 5), &values), dense((5, 5), &[0; 32]).encode()]);
+        assert_eq!(rolled.closing.3, values.len());
+        made.taken(&[rolled.written.1.clone()]);
+        made.taken(&[rolled.written.1, neither((4, 4)).encode()]);
+        made.taken(&[dense((4, 5), &[0; 16]).encode(), list((5, 5), &values)]);
     }
 }
 
@@ -875,7 +921,7 @@ fn by_chance(made: &mut Made) {
 }
 
 fn main() {
-    let mut made = Made { all: Cases::default(), chance: Chance(0x9abe_68bf_8701_ba7c), answers: BTreeMap::new(), paths: BTreeMap::new() };
+    let mut made = Made { all: Cases::default(), chance: Chance(0x9abe_68bf_8701_ba7c), answers: BTreeMap::new(), paths: BTreeMap::new(), departures: 0 };
     examples(&mut made);
     sizes(&mut made);
     chains(&mut made);
@@ -885,6 +931,7 @@ fn main() {
     paths(&mut made);
     writing(&mut made);
     registers_of_all_kinds(&mut made);
+    equal_precisions(&mut made);
     full_size(&mut made);
     by_chance(&mut made);
     made.all.write(524288);
@@ -894,6 +941,7 @@ fn main() {
     for (path, count) in &made.paths {
         println!("{count:5} {path}");
     }
+    println!("{:5} refused as U3 asks, where the original says something else", made.departures);
     // 1, 2 and 23 cannot come up (docs/DECISIONS.md).
     let numbers: Vec<u8> = made.answers.keys().copied().collect();
     assert_eq!(numbers, [0].into_iter().chain(3..=22).chain([24, 25]).collect::<Vec<u8>>());

@@ -1,16 +1,17 @@
 //! Makes the cases of `crates/rollup_cases` and what must be printed for each: sequences of calls. The answers, heads, lists and registers are
-//! those of the Rust original (`compare/original`), and so are the written states. What it has no counterpart of is worked out in `model.rs` from document
-//! 01: questions 1, 17, 21, 22 and 23, lent memory, the kept bytes of a dense head, and the merge that "Difference" asks for. Where a document gives
+//! those of the Rust original (`compare/original`), and so are the written states. What it has no counterpart of is worked out in `model.rs` from documents
+//! 01 and 02: questions 1, 17, 21, 22 and 23, lent memory, the kept bytes of a dense head, the merge that "Difference" asks for, and the lists with s = p that U3 refuses. Where a document gives
 //! an answer, it stands here as an expectation, and another answer stops the run.
 
 mod cases;
+mod lists;
 mod model;
 mod states;
 
 use cases::{hex, mark, marked, text, unhex, Cases, Chance, Pair};
-use model::{limit, Head, Rollup, DENSE, SPARSE, UNSTARTED};
+use model::{limit, Departure, Head, Rollup, DENSE, SPARSE, UNSTARTED};
 use original::Fields;
-use states::{damaged, dense, list, neither, raw, registers, some_list, some_pair, some_registers, spelled, upto};
+use states::{damaged, dense, edge_values, equal_lists, list, neither, raw, registers, some_list, some_pair, some_registers, spelled, upto};
 
 /// What lent memory is filled with.
 const REGISTER: u8 = 165;
@@ -59,7 +60,9 @@ struct Made {
     all: Cases,
     chance: Chance,
     roll: Rollup,
-    differences: usize,
+    /// How often a list was merged as "Difference" asks, and refused as U3 asks, where the original does something else.
+    merged: usize,
+    refused: usize,
     /// How often `near` wrote.
     turn: usize,
 }
@@ -117,8 +120,9 @@ impl Made {
     }
 
     fn call(&mut self, kind: &str, bytes: &[u8]) -> u8 {
-        let (answer, differs) = self.roll.add(bytes);
-        self.differences += usize::from(differs);
+        let (answer, departure) = self.roll.add(bytes);
+        self.merged += usize::from(departure == Departure::Merged);
+        self.refused += usize::from([Departure::Refused, Departure::RefusedSooner].contains(&departure));
         self.all.counted(kind, &hex(bytes), &self.roll.answer(answer), format!("{kind} answered {answer}"));
         answer
     }
@@ -219,15 +223,20 @@ fn examples(made: &mut Made) {
     made.hexed(0, A);
     assert_eq!(made.roll.waiting(), [33, 65667]);
     made.ask();
-    made.all.remark("E8: a fifth byte 0f passes 19, and its value gets 20; 10 is 19. E10: register 55 passes at p = 10, 56 is 14. E9: plain 1 at (10,10) has rank 64");
+    made.all.remark("E8: a fifth byte 0f passes 19, and its value gets 20; 10 is 19. E10: register 55 passes at p = 10, 56 is 14. E9 by document 02: plain 1 at (10,10) is a refused list");
     made.add(20, &raw((10, 15), 1, &unhex("808080800f")));
     made.add(19, &raw((10, 15), 1, &unhex("8080808010")));
     made.lend(1024, 4, 4, 4);
     made.add(14, &dense((10, 10), &registers(10, &[(1023, 56)])));
     made.add(0, &dense((10, 10), &registers(10, &[(1023, 55)])));
-    made.add(0, &list((10, 10), &[1]));
-    assert_eq!(made.roll.registers[1], 64);
+    // The original takes E9's list.
+    made.add(20, &list((10, 10), &[1]));
+    assert_eq!(made.refused, 1);
+    made.hexed(20, "0870100118028207091001180a200a320101");
     made.spaces();
+    made.lend(1024, 4, 4, 4);
+    made.hexed(20, "0870100118028207091001180a200a320101");
+    made.form(UNSTARTED);
     made.all.remark("12 list bytes at p = 4, which is L, are kept as a list by the first state");
     made.fresh(4);
     made.add(0, &list((4, 9), &upto(0, 12)));
@@ -601,6 +610,139 @@ fn bad_lists(made: &mut Made) {
     }
 }
 
+fn equal_precisions(made: &mut Made) {
+    made.all.remark("Document 02, U3: with s = p a plain value is 20 at the end of the list, and m = 0 where it is read; at a fresh, a list and a dense roll-up, which stay as they were.");
+    made.all.remark("The Rust takes these values; what is expected is worked out from the documents");
+    for (pair, forms) in [((4, 4), vec![UNSTARTED, SPARSE, DENSE]), ((5, 5), vec![DENSE]), ((10, 10), vec![SPARSE])] {
+        for form in forms {
+            made.lend(1 << pair.0, 40, 40, 40);
+            if form != UNSTARTED {
+                made.add(0, &list(pair, &[marked(pair, 7, 1), marked(pair, 9, (65 - pair.1) as u32)]));
+            }
+            if form == DENSE {
+                made.add(0, &dense(pair, &registers(pair.0, &[(4, 4)])));
+            }
+            made.form(form);
+            let before = made.refused;
+            for (n, bytes) in equal_lists(pair) {
+                made.add(n, &raw(pair, 1, &bytes));
+            }
+            assert_eq!(made.refused - before, 15, "the original says something else");
+            made.form(form);
+            made.output("o", 1100);
+            made.add(0, &list(pair, &[marked(pair, 3, 1)]));
+            made.output("o", 1100);
+        }
+    }
+    made.all.remark("At (24,24), for which no registers are lent, 17 comes before; at a dense roll-up of a smaller p it is 20, and a list that is valid is lowered");
+    let pair = (24, 24);
+    made.lend(16, 40, 40, 40);
+    made.add(17, &list(pair, &[1]));
+    made.add(17, &list(pair, &[marked(pair, 0, 0)]));
+    made.add(0, &dense((4, 4), &[0; 16]));
+    for (n, bytes) in equal_lists(pair) {
+        made.add(n, &raw(pair, 1, &bytes));
+    }
+    made.add(0, &list(pair, &[marked(pair, 0, 41), marked(pair, 1 << 20, 1), marked(pair, (1 << 24) - 1, 41)]));
+    assert_eq!((made.roll.registers[0], made.roll.registers[1], made.roll.registers[15]), (61, 21, 1));
+    made.written();
+    made.all.remark("Where s is p+1 nothing is changed: plain values and m = 0 are accepted, at a list and into registers");
+    for pair in [(4, 5), (10, 11)] {
+        let m = |i, m| marked(pair, i, m);
+        made.lend(1 << pair.0, 40, 40, 40);
+        for values in [vec![0], vec![1], vec![m(0, 0)], vec![1, m(1, 0)]] {
+            made.add(0, &list(pair, &values));
+        }
+        made.add(18, &raw(pair, 1, &[original::encode_sparse(&[m(1, 0)]), vec![0x80]].concat()));
+        made.written();
+        made.add(0, &dense(pair, &registers(pair.0, &[])));
+        for values in [vec![0], vec![1], vec![m(0, 0)], vec![1, m(1, 0)]] {
+            made.add(0, &list(pair, &values));
+        }
+    }
+    made.lend(16, 40, 40, 40);
+    made.add(0, &dense((4, 5), &[0; 16]));
+    made.add(0, &list((24, 25), &[0, 1, marked((24, 25), 0, 0), marked((24, 25), (1 << 24) - 1, 40)]));
+    made.all.remark("No list bytes at s = p is no value: a sparse field that is empty, and none; the ranks of valid values are m, at their own p and lowered");
+    made.after(4, &[&Fields { sparse_data: Some(Vec::new()), ..neither((4, 4)) }, &neither((4, 4))]);
+    made.form(SPARSE);
+    made.written();
+    let m = |i, m| marked((5, 5), i, m);
+    let values = [m(0, 1), m(1, 60), m(2, 2), m(3, 60), m(6, 60), m(9, 1), m(31, 60)];
+    made.after(5, &[&list((5, 5), &values)]);
+    made.again();
+    assert_eq!(made.roll.registers[..10], [1, 60, 2, 60, 0, 0, 60, 0, 0, 1]);
+    made.add(0, &neither((4, 4)));
+    assert_eq!(made.roll.registers[..5], [2, 3, 0, 61, 1]);
+    made.again();
+    made.after(4, &[&dense((4, 4), &[0; 16]), &list((5, 5), &values)]);
+    assert_eq!(made.roll.registers[..5], [2, 3, 0, 61, 1]);
+    made.all.remark("Lists with s = p on each path: they wait, all are merged, one is inserted, one is merged, they turn dense");
+    let v = |first: u32, n: u32, rank: u32| list((5, 5), &(first..first + n).map(|i| m(i, rank)).collect::<Vec<_>>());
+    made.after(5, &[&v(0, 2, 1), &v(1, 1, 9), &v(1, 2, 3)]);
+    assert_eq!(made.roll.head.waiting, 3);
+    made.written();
+    made.add(0, &v(3, 3, 60));
+    assert_eq!(made.roll.kept(), [m(0, 1), m(1, 9), m(2, 3), m(3, 60), m(4, 60), m(5, 60)]);
+    made.again();
+    made.after(5, &[&v(0, 18, 7), &v(9, 1, 8), &v(9, 1, 1), &v(20, 1, 1)]);
+    assert_eq!((made.roll.head.kept, made.roll.head.waiting), (19, 0));
+    made.add(20, &list((5, 5), &[1]));
+    made.add(20, &list((5, 5), &[m(9, 0)]));
+    made.written();
+    made.add(0, &v(10, 14, 30));
+    made.form(DENSE);
+    made.again();
+}
+
+/// Heads with s = p: question 1 by document 02, U3.
+fn unfit_equal(made: &mut Made) {
+    made.all.remark("1: a list head with s = p: a plain value and m = 0, kept and waiting, first and last; m at 65-s and above; heads that fit");
+    for pair in [(4, 4), (5, 5), (10, 10)] {
+        let m = |i, m| marked(pair, i, m);
+        let (last, most) = ((1 << pair.0) - 1, (65 - pair.1) as u32);
+        for (kept, waiting, want) in [
+            (vec![m(0, 1), m(last, most)], vec![], 0),
+            (vec![m(0, 1)], vec![m(last, most)], 0),
+            (vec![0], vec![], 1),
+            (vec![1], vec![], 1),
+            (vec![1, m(0, 1)], vec![], 1),
+            (vec![m(0, 0)], vec![], 1),
+            (vec![m(0, 0), m(0, 1)], vec![], 1),
+            (vec![m(0, 1), m(last, 0)], vec![], 1),
+            (vec![m(0, most + 1)], vec![], 1),
+            (vec![2 * mark(pair) + 1], vec![], 1),
+            (vec![3 * mark(pair) + 1], vec![], 1),
+            (vec![], vec![0], 1),
+            (vec![], vec![1], 1),
+            (vec![m(0, 1)], vec![1], 1),
+            (vec![m(0, 1)], vec![m(0, 0)], 1),
+            (vec![m(0, 1)], vec![m(0, most + 1)], 1),
+            (vec![], vec![2 * mark(pair) + 1], 1),
+        ] {
+            made.lend(1 << pair.0, 8, 8, 8);
+            made.set_kept(&kept);
+            made.set_waiting(&waiting);
+            let bytes = original::encode_sparse(&kept).len() as u64;
+            made.head(Head { form: SPARSE, allowed: 15, num_values: 2, p: pair.0, s: pair.1, size: 1, kept: kept.len() as u64, bytes, waiting: waiting.len() as u64, ..Head::default() });
+            made.write(want, 64);
+            made.add(want, &neither(pair));
+        }
+    }
+    made.all.remark("The same values fit where s is p+1; past the counts no value is asked for");
+    for pair in [(4, 5), (10, 11)] {
+        for (kept, waiting) in [(vec![0, 1], vec![]), (vec![marked(pair, 0, 0)], vec![]), (vec![1], vec![marked(pair, 0, 0)])] {
+            set_list(made, pair, &kept, &waiting, 8);
+            made.written();
+        }
+    }
+    made.lend(16, 8, 8, 8);
+    made.set_kept(&[marked((4, 4), 0, 1), 1]);
+    made.set_waiting(&[marked((4, 4), 0, 0)]);
+    made.head(Head { form: SPARSE, allowed: 15, p: 4, s: 4, kept: 1, bytes: 2, ..Head::default() });
+    made.add(0, &neither((4, 4)));
+}
+
 /// A list head at (5,10) with three kept and two waiting values.
 fn five() -> Head {
     Head { form: SPARSE, allowed: 15, num_values: 5, p: 5, s: 10, size: 3, kept: 3, bytes: 3, waiting: 2, ..Head::default() }
@@ -632,9 +774,9 @@ fn unfit(made: &mut Made) {
         made.head(Head { form: UNSTARTED, allowed, p, ..Head::default() });
         made.add(0, &Fields { value_type: 8, ..neither((4, 9)) });
     }
-    made.all.remark("1: a dense head: a count that is not 0, p, s, a register above 88-p, too few register bytes; and heads that just fit");
+    made.all.remark("1: a dense head: a count that is not 0, p, s, a register above 65-p, too few register bytes; and heads that just fit");
     let dense_head = Head { form: DENSE, allowed: 15, num_values: 5, p: 5, s: 10, size: 3, ..Head::default() };
-    let regs = registers(5, &[(31, 83), (7, 1)]);
+    let regs = registers(5, &[(31, 60), (7, 1)]);
     let d = |made: &mut Made, h: Head, r: usize, bytes: &[u8], want: u8| {
         made.lend(r, 20, 20, 20);
         made.set_registers(bytes);
@@ -656,11 +798,29 @@ fn unfit(made: &mut Made) {
     d(made, Head { s: -1, ..dense_head.clone() }, 35, &regs, 0);
     d(made, Head { s: i32::MIN, ..dense_head.clone() }, 35, &regs, 0);
     d(made, dense_head.clone(), 31, &regs[..31], 1);
-    d(made, dense_head.clone(), 35, &registers(5, &[(0, 84)]), 1);
-    d(made, dense_head.clone(), 35, &registers(5, &[(31, 84)]), 1);
-    d(made, dense_head.clone(), 35, &registers(5, &[(15, 255)]), 1);
-    d(made, Head { p: 4, ..dense_head.clone() }, 35, &registers(5, &[(15, 84), (16, 85)]), 0);
-    d(made, Head { p: 4, ..dense_head.clone() }, 35, &registers(5, &[(15, 85)]), 1);
+    for s in [5, 6, 10] {
+        let h = Head { s, ..dense_head.clone() };
+        d(made, h.clone(), 35, &registers(5, &[(0, 60), (31, 60)]), 0);
+        d(made, h.clone(), 35, &registers(5, &[(0, 61)]), 1);
+        d(made, h.clone(), 35, &registers(5, &[(31, 61)]), 1);
+        d(made, h.clone(), 35, &registers(5, &[(9, 83)]), 1);
+        d(made, h, 35, &registers(5, &[(15, 255)]), 1);
+    }
+    for s in [4, 9] {
+        let h = Head { p: 4, s, ..dense_head.clone() };
+        d(made, h.clone(), 35, &registers(5, &[(15, 61), (16, 62)]), 0);
+        d(made, h, 35, &registers(5, &[(15, 62)]), 1);
+    }
+    made.all.remark("1: registers of 55 and 56 at p = 10, and a state with neither: s above p, and s = p");
+    made.lend(1024, 0, 0, 0);
+    made.set_registers(&registers(10, &[(1023, 55)]));
+    for s in [15, 11, 10] {
+        for (register, want) in [(55, 0), (56, 1), (64, 1)] {
+            made.set_registers(&[register]);
+            made.head(Head { p: 10, s, ..dense_head.clone() });
+            made.add(want, &neither((10, s)));
+        }
+    }
     made.all.remark("1: a list head: each clause alone. It fits; p; s");
     let m = |i, m| marked(pair, i, m);
     set(made, five(), &[3, 5, 9], &[8, 7]);
@@ -713,13 +873,12 @@ fn unfit(made: &mut Made) {
         made.add(want, &state);
     }
     made.all.remark("1: at most 2048 values wait");
-    for (waiting, want) in [(2048, 0), (2049, 1)] {
-        made.lend(16384, 4096, 4096, 4096);
-        let values: Vec<u32> = (0..2049).map(|i| i % 10).collect();
-        made.set_waiting(&values);
-        made.head(Head { form: SPARSE, allowed: 15, p: 14, s: 14, waiting, ..Head::default() });
+    made.lend(16384, 4096, 4096, 4096);
+    made.set_waiting(&(0..2049).map(|i| i % 10).collect::<Vec<u32>>());
+    for (waiting, want) in [(2049, 1), (2048, 0)] {
+        made.head(Head { form: SPARSE, allowed: 15, p: 14, s: 15, waiting, ..Head::default() });
         made.write(want, 64);
-        made.add(want, &neither((14, 14)));
+        made.add(want, &neither((14, 15)));
     }
     made.all.remark("1 comes before 2 to 20: no bytes, a bad tag");
     set(made, Head { s: 0, ..five() }, &[3, 5, 9], &[8, 7]);
@@ -807,7 +966,7 @@ fn paths(made: &mut Made) {
     made.after(6, &[&dense((6, 11), &p6), &dense((4, 9), &p4)]);
     made.after(6, &[&dense((4, 9), &p4), &dense((6, 11), &p6), &dense((5, 10), &p5)]);
     made.all.remark("Dense, with a list of an equal, a smaller, a larger p");
-    let l = |pair: Pair| list(pair, &[0, 1, 9, (1 << pair.1) - 1, marked(pair, 0, 3), marked(pair, 5, 0), marked(pair, (1 << pair.0) - 1, (65 - pair.1) as u32)]);
+    let l = |pair: Pair| list(pair, &edge_values(pair));
     made.after(6, &[&dense((6, 11), &p6), &l((6, 11)), &l((6, 8)), &l((6, 25))]);
     made.add(0, &l((5, 10)));
     made.add(0, &l((6, 11)));
@@ -825,16 +984,21 @@ fn paths(made: &mut Made) {
         made.ask();
     }
     made.after(4, &[&dense((4, -3), &p4), &list((4, 9), &[3]), &neither((5, 5))]);
-    made.all.remark("Rank 0: a listed value lowers by the rule with r = 0, a register of 0 stays 0");
-    made.after(4, &[&dense((4, 5), &[0; 16])]);
-    made.add(0, &raw((5, 5), 1, &unhex("8010")));
-    assert_eq!(made.roll.registers[..2], [1, 0]);
-    made.after(5, &[&dense((5, 5), &[0; 32])]);
-    made.add(0, &raw((5, 5), 1, &unhex("8010")));
-    made.add(0, &dense((4, 5), &[0; 16]));
+    made.all.remark("A register of 0 stays 0 where it is lowered. With s = p the least rank of a listed value is 1, which lowers to 2 at an even index, 1 at an odd one");
+    made.after(5, &[&dense((5, 5), &[0; 32]), &dense((4, 5), &[0; 16])]);
     assert_eq!(made.roll.registers[..2], [0, 0]);
-    made.all.remark("Equal precisions: a list turns dense by data, and large ranks are lowered");
-    made.after(5, &[&list((5, 5), &[0, 1, 2, 16, 31, marked((5, 5), 3, 0), marked((5, 5), 4, 60)]), &dense((5, 5), &[0; 32]), &neither((4, 4))]);
+    made.after(4, &[&dense((4, 5), &[0; 16])]);
+    made.add(20, &raw((5, 5), 1, &unhex("8010")));
+    made.add(0, &raw((5, 5), 1, &unhex("8110 40")));
+    assert_eq!(made.roll.registers[..2], [2, 0]);
+    made.add(0, &raw((5, 5), 1, &unhex("c111")));
+    assert_eq!(made.roll.registers[..2], [2, 1]);
+    made.all.remark("Equal precisions: a list turns dense by data, and is lowered");
+    let m5 = |i, m| marked((5, 5), i, m);
+    made.after(5, &[&list((5, 5), &[m5(0, 1), m5(3, 1), m5(3, 9), m5(4, 60), m5(31, 60)]), &dense((5, 5), &[0; 32])]);
+    assert_eq!((made.roll.registers[3], made.roll.registers[4], made.roll.registers[31]), (9, 60, 60));
+    made.add(0, &neither((4, 4)));
+    assert_eq!(made.roll.registers[..3], [2, 1, 61]);
     made.all.remark("A dense roll-up keeps its first state's sparse size; one that was a list has 0");
     made.after(4, &[&Fields { sparse_size: 42, ..dense((4, 9), &p4) }, &list((4, 9), &[3])]);
     made.all.remark("A dense head keeps its kept bytes, which question 1 does not ask for, whatever is added; turning dense sets 0");
@@ -934,7 +1098,7 @@ fn edges(made: &mut Made) {
     made.form(DENSE);
     made.add(0, &list((6, 11), &[2047]));
     made.all.remark("Waiting + k is 2048, and 2049, at p = 14: in one call, and after 2048 waited");
-    let pair = (14, 14);
+    let pair = (14, 15);
     made.lend(16384, 8192, 8192, 8192);
     made.add(0, &list(pair, &[0]));
     made.add(0, &list(pair, &upto(1, 1024)));
@@ -958,7 +1122,7 @@ fn difference(made: &mut Made) {
     made.all.remark("inserts; what is expected here is document 01's, the merge by the Rust's own merge_dedupe_into");
     let pair = (5, 10);
     let m = |i, m| marked(pair, i, m);
-    let before = made.differences;
+    let before = made.merged;
     let mut first = vec![4; 10];
     first.extend(5..15);
     made.after(5, &[&list(pair, &first)]);
@@ -983,7 +1147,7 @@ fn difference(made: &mut Made) {
     made.all.remark("Not asked where the list waits, where values wait, or where it is merged anyway");
     made.after(5, &[&list(pair, &[3; 16]), &list(pair, &[4]), &list(pair, &[5])]);
     made.after(5, &[&list(pair, &[[3; 16].to_vec(), vec![900, 901]].concat()), &list(pair, &[4, 5])]);
-    assert_eq!(made.differences - before, 11);
+    assert_eq!(made.merged - before, 11);
 }
 
 impl Made {
@@ -1208,15 +1372,17 @@ fn writing_lists(made: &mut Made) {
         assert_eq!(f.sparse_data, Some(original::encode_sparse(values)));
         made.write(0, 64);
     }
-    made.all.remark("The same by adding; and at (4,4), where plain 3 and marked values of index 3 share an index");
+    made.all.remark("The same by adding; and at (4,4), where every value is marked");
     made.after(5, &[&list(pair, &[32]), &list(pair, &[m(1, 3), m(2, 0)])]);
     made.again();
     made.after(5, &[&neither(pair), &list(pair, &[5])]);
     made.again();
     let n = |i, m| marked((4, 4), i, m);
-    made.after(4, &[&list((4, 4), &[3]), &list((4, 4), &[n(3, 0)])]);
-    assert_eq!(Fields::parse(&made.written()).expect("a state").sparse_size, 1);
-    made.again();
+    for (values, size) in [(vec![n(3, 5)], 1), (vec![n(3, 1), n(4, 61)], 2)] {
+        made.after(4, &[&list((4, 4), &[n(3, 2)]), &list((4, 4), &values)]);
+        assert_eq!(Fields::parse(&made.written()).expect("a state").sparse_size, size);
+        made.again();
+    }
     made.all.remark("Write, add, write again, and twice, on each path: waiting, all merged, inserted, merged, turned dense, lowered");
     made.after(5, &[&list(pair, &[40])]);
     for f in [
@@ -1261,12 +1427,16 @@ fn writing_numbers(made: &mut Made) {
     }
     made.after(4, &[&dense(pair, &[0; 16]), &neither((5, 7))]);
     made.again();
-    made.all.remark("Dense registers above 65-p, which a list with s = p can set: they are written, and a fresh roll-up refuses the state with 14");
-    made.after(4, &[&dense((4, 4), &[0; 16]), &list((4, 4), &[1])]);
-    assert_eq!(made.roll.registers[1], 64);
-    let bytes = made.written();
-    made.fresh(4);
-    made.bytes(14, &bytes);
+    made.all.remark("Registers of 65-p, set by a list with s = p: refused lists change nothing, and what is written is read again");
+    for pair in [(4, 4), (5, 5)] {
+        let (p, most) = (pair.0, (65 - pair.0) as u32);
+        made.after(p, &[&dense(pair, &registers(p, &[])), &list(pair, &[marked(pair, 1, most), marked(pair, 2, 1)])]);
+        for bytes in ["01", "00", "8000"] {
+            made.add(20, &raw(pair, 1, &unhex(bytes)));
+        }
+        assert_eq!(made.roll.registers[1], most as u8);
+        made.again();
+    }
     made.all.remark("Value counts: 0, negative, wrapped. Value types: the first state's, though later ones narrow the mask");
     for n in [0, -1, i64::MIN, i64::MAX, 127, 128] {
         made.after(4, &[&Fields { num_values: n, ..list(pair, &[3]) }]);
@@ -1302,7 +1472,7 @@ fn by_chance(made: &mut Made) {
         let head = Head { form: SPARSE, allowed: [15, 15, 12, 1][made.chance.below(4) as usize], num_values: -3, p: pair.0, s: pair.1, size: 8, ..Head::default() };
         if made.chance.below(6) == 0 {
             let mut registers = some_registers(&mut made.chance, pair.0);
-            registers[3] = (88 - pair.0) as u8;
+            registers[3] = (65 - pair.0) as u8;
             made.set_registers(&registers);
             made.head(Head { form: DENSE, ..head });
         } else {
@@ -1326,7 +1496,7 @@ fn by_chance(made: &mut Made) {
 }
 
 fn main() {
-    let mut made = Made { all: Cases::default(), chance: Chance(0x9abe_68bf_8701_5eed), roll: Rollup::default(), differences: 0, turn: 0 };
+    let mut made = Made { all: Cases::default(), chance: Chance(0x9abe_68bf_8701_5eed), roll: Rollup::default(), merged: 0, refused: 0, turn: 0 };
     examples(&mut made);
     wire(&mut made);
     headers(&mut made);
@@ -1334,7 +1504,9 @@ fn main() {
     carried(&mut made);
     room(&mut made);
     bad_lists(&mut made);
+    equal_precisions(&mut made);
     unfit(&mut made);
+    unfit_equal(&mut made);
     paths(&mut made);
     edges(&mut made);
     difference(&mut made);
@@ -1343,5 +1515,6 @@ fn main() {
     writing_numbers(&mut made);
     by_chance(&mut made);
     made.all.write(163840);
-    println!("{:5} by the merge that the Difference asks for", made.differences);
+    println!("{:5} by the merge that the Difference asks for", made.merged);
+    println!("{:5} refused as U3 asks, where the original says something else", made.refused);
 }
