@@ -53,7 +53,7 @@ gapRefusal Cut = 18
 gapRefusal Long = 19
 
 -- What is refused with 20 where it is read: a sum below the last one, "the low six bits [more than] 65−s where the mark bit is set", and with s = p "a marked value
--- with m = 0 …, the marked one where it is read" (U3). The mark bit alone decides here, whatever stands above it.
+-- with m = 0 …, the marked one where it is read" (document 02, U3). The mark bit alone decides here, whatever stands above it.
 abbrev pub refusedHere : ℕ → ℕ → ℕ → ℕ → Bool
 refusedHere p s last v = ltb v last || (marked p s v && not (markedRankFits p s v))
 
@@ -94,12 +94,12 @@ unfoldable pub allValid : ℕ → ℕ → List ℕ → Bool
 allValid p s [] = true
 allValid p s (v ∷ l) = valid p s v && allValid p s l
 
--- "At the end, every value valid?" With s = p, "plain ones at the end of the list" (U3).
+-- "At the end, every value valid?" With s = p also "plain ones at the end of the list" (document 02, U3).
 unfoldable pub decodeOf : ℕ → ℕ → List ℕ → Read (List ℕ)
 decodeOf p s l = andThen (sumsOf p s (length l) l 0) (λ vs rest. cond (allValid p s vs) (got vs rest) (refused 20))
 
--- Of the values of a list that was read two decide for all: the last one with the mark bit clear, and the last of all. Where there is no such value, one that is
--- valid at every pair stands for it: the marked one of index 0 with m = 1.
+-- Of the values of a list that was read two decide for all: the last one with the mark bit clear, and the last of all. Before there is one with the mark bit clear, a
+-- value stands for it that is valid at every pair: the marked one of index 0 with m = 1.
 abbrev pub noPlain : ℕ → ℕ → ℕ
 noPlain p s = mark p s + 1
 

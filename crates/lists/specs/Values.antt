@@ -34,7 +34,7 @@ plainEnd p s = cond (eqb s p) 0 (2 ^ s)
 abbrev pub markedEnd : ℕ → ℕ → ℕ
 markedEnd p s = mark p s + 64 * 2 ^ p
 
--- "and m at most 65−s." U3: "With s = p, a plain value and a marked value with m = 0 now get 20."
+-- "and m at most 65−s." U3: "With s = p, a plain value and a marked value with m = 0 now get 20".
 unfoldable pub leastMarkedRank : ℕ → ℕ → ℕ
 leastMarkedRank p s = cond (eqb s p) 1 0
 
