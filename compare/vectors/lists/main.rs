@@ -309,6 +309,14 @@ fn values(made: &mut Made) {
             assert_eq!(rank, if m == 0 || m > most { None } else { Some(m) });
         }
     }
+    made.all.remark("Equal precisions, each p: plain 0, m of 0, 1, 65-s and 66-s");
+    for p in 4..=24 {
+        let most = 65 - p as u32;
+        assert!(made.value((p, p), 0).starts_with("0 0"));
+        for (m, valid) in [(0, false), (1, true), (most, true), (most + 1, false)] {
+            assert!(made.value((p, p), marked((p, p), 0, m)).starts_with(if valid { "1 1 " } else { "1 0" }));
+        }
+    }
     made.all.remark("The neighbours, where s is p+1: 0, plain values and m = 0 are valid");
     for pair in [(4, 5), (10, 11), (24, 25)] {
         for v in [0, 1, (1 << pair.1) - 1, mark(pair), marked(pair, 1, 0)] {
@@ -457,6 +465,9 @@ fn equal_precisions(made: &mut Made) {
             }
         }
     }
+    made.all.remark("Equal precisions: a sum that wraps to a smaller valid value, alone and before a cut gap");
+    made.told((4, 4), "8208 ffffffff0f", "refused 20");
+    made.told((4, 4), "8208 ffffffff0f 80", "refused 20");
     made.all.remark("Two faults, each with each and in both orders, alone and behind a valid value: 18, 19 and what the mark bit decides come where they are read, a plain value at the end");
     for pair in [(4, 4), (10, 10)] {
         for start in [0, marked(pair, 0, 1)] {

@@ -377,6 +377,13 @@ fn headers(made: &mut Made) {
     made.lend(32, 0, 0, 0);
     made.add(0, &zeros);
     made.add(0, &dense((4, 9), &registers(4, &[(15, 61)])));
+    made.all.remark("14: registers of 65-p and 66-p at p = 6 and 7, with s = p and s above it");
+    for (p, s) in [(6, 6), (7, 12)] {
+        made.lend(1 << p, 0, 0, 0);
+        for (register, answer) in [(65 - p, 0), (66 - p, 14)] {
+            made.add(answer, &dense((p, s), &registers(p, &[(1, register as u8)])));
+        }
+    }
 }
 
 fn masks(made: &mut Made) {

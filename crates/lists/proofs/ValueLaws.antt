@@ -12,7 +12,7 @@ use lib.Pow.{pow-pos, pow-mono, pow-lt, pow-add, shl-lt, shl-shr, shr-lt, mod-po
 use lib.Bits.{bitAnd, and-high, and-mask}
 use lib.Count.{leadingZeros, leading-le, leading-top, leading-length, leading-unique}
 use borrow.Author.Tests.{ltb-true, leb-true, eqb-true, eqb-false, lt-ltb, le-ltb, le-leb, lt-leb, eq-eqb, ne-eqb}
-use Rattle.wire.proofs.BoolLaws.{both, both-true, whichever}
+use Rattle.wire.proofs.BoolLaws.{both-true, whichever}
 use Rattle.wire.proofs.VarintLaws.{side}
 use Rattle.lists.specs.Values.{markBit, mark, marked, plainEnd, markedEnd, leastMarkedRank, markedRankFits, valid, sparseIndex, register, plainRank, rank, largestRank, loweredRank, loweredRegister, Pair, NewPost, IndexPost, RankPost}
 

@@ -1,6 +1,7 @@
 // Reading a list. Ported from `decode_validated_each` and `decode_validated_into` in src/encoding.rs of zetasketch-rs at commit 9abe68bf87
 // (Apache-2.0, see NOTICE). Changed: a gap is read by a function of its own, unrolled, and one value by another; values go into a lent
-// slice in the place of a closure; an enum and document 01's numbers in the place of `Result` and strings.
+// slice in the place of a closure; an enum and document 01's numbers in the place of `Result` and strings; with s = p an m of 0 is refused where it is read
+// (document 02, U3), and at the end the index alone of the last value is tested.
 ghost use mathlib.Core.Path.{_≡_};
 ghost use Prim.Native.Nat.{_<_, _≤_};
 ghost use lib.ListN.{length};
@@ -158,8 +159,8 @@ pub fn later_plain(enc: Sparse, plain: u32, v: u32) -> u32
     }
 }
 
-// Whether every value of a list is valid, by two of them: the last one with the mark bit clear and the last one of all, which is 0 where there is
-// none. The values do not descend, so that no plain one is above the first of these, and no index above that of the second: the others are not tested at the end.
+// Whether every value of a list is valid, by two of them: the last one with the mark bit clear, or `no_plain`, and the last one of all, or 0. The values do
+// not descend, so that no plain one is above the first of these, and no index above that of the second: the others are not tested at the end.
 pub fn ends_valid(enc: Sparse, plain: u32, last: u32) -> bool
     requires { ⌜ SparseFits enc ⌝ }
     ensures { λ r. ⌜ r ≡ endsValid (enc .«normal_precision») (enc .«sparse_precision») plain last ⌝ }

@@ -1,10 +1,9 @@
 -- One call and what is compared by demand 3. A refusal and a write leave it as it was. What is taken in is one equation, whatever the roll-up's form:
 -- the precision, the sparse precision and the mask become the smaller ones and the common bits, and the registers the larger of the roll-up's and of
 -- those that come in, both lowered to the smaller precision.
-use Prim.Native.Nat.{ℕ, _+_, _-_, _^_, _<_, _≤_, max, min}
+use Prim.Native.Nat.{ℕ, _+_, _-_, _^_, max, min}
 use mathlib.Core.Path.{_≡_, refl, sym, ap, ap₂, _∙_, subst}
 use mathlib.Core.Bool.{Bool, true, false, cond}
-use mathlib.Core.Logic.{⊎-elim}
 use mathlib.Core.List.{List, [], _++_, append-assoc, append-nil, List·Permᴰ}
 use native.Mathlib.Nat.{min-le-right, min-eq-left, le-of-eq}
 use native.Mathlib.Omega.{arith}

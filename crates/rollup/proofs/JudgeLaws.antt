@@ -1,5 +1,5 @@
 -- Questions 2 to 20, taken apart: what is known of a state that was accepted, fact by fact, and each question's answer on its own.
-use Prim.Native.Nat.{ℕ, zero, suc, _+_, _-_, _*_, _%_, _^_, _<_, _≤_}
+use Prim.Native.Nat.{ℕ, zero, suc, _+_, _*_, _%_, _^_, _<_, _≤_}
 use mathlib.Core.Path.{_≡_, refl, sym, ap, ap₂, _∙_, subst}
 use mathlib.Core.Bool.{Bool, true, false, cond, _&&_, _||_, not}
 use mathlib.Core.List.{List, [], _∷_}
@@ -31,10 +31,9 @@ use Rattle.rollup.specs.declared.accumulator.Form.the-variants.{Unstarte
 use Rattle.rollup.specs.declared.accumulator.Accumulator.{Accumulator}
 use Rattle.rollup.specs.declared.judging.Judged.{Judged}
 use Rattle.rollup.specs.declared.judging.Judged.the-variants.{State as JudgedState, Refused}
-use Rattle.rollup.specs.Accumulator.{Mem, normalRange, sparseRange, isStarted}
+use Rattle.rollup.specs.Accumulator.{Mem, normalRange, sparseRange}
 use Rattle.rollup.specs.Header.{ask, firstNo, dataOf, listOf, isEmpty, isValueType, maskOf, stateType, stateVersion, kindAnswer, listHasPrecision, dataHasLength, needsPair, pairInRange, structureAnswer, registersInRange, headerAnswer, passing, readHeader}
 use Rattle.rollup.specs.Adding.{masksMeet, hasField, hasBoth, samePair, carried, matchAnswer, judge, judgeAnswer, wantedPrecision, wantedRegisters, wantedCells, hasRoom, listedIn}
-use Rattle.rollup.specs.Taking.{commonMask}
 use Rattle.rollup.specs.Judging.{judgedMeans, JudgedInside, HeaderPost, JudgePost, parsedRefusal, RoomPre, ListedPre}
 use Rattle.rollup.proofs.FitLaws.{both-yes, both-no, above-zero, range-of, ranges-pair, fit-sparse, fit-dense, fit-short}
 
