@@ -1,4 +1,4 @@
--- One less than the least low six bits of a marked value is 1 or 0 (`code-plain-end`).
+-- The least low six bits are 1 or 0, so that 0 or 1 is shifted (`code-plain-end`).
 use borrow.Author.Needs.{needs}
 use Rattle.lists.proofs.ValueLaws.{code-plain-end}
 use Rattle.lists.proofs.values.plain_end.Statement.{statement}
