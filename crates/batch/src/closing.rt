@@ -14,14 +14,14 @@ use rollup::writing::Written;
 use rollup::{sparse_paths, writing};
 
 // How many registers are not zero; or the piece lent for a list's registers is too short for them.
-#[derive(Drop)]
+#[derive(Clone, Copy)]
 pub enum Count {
     Registers(usize),
     Short,
 }
 
 // All that is said of a batch: the records, the registers that are not zero, and what became of writing.
-#[derive(Drop)]
+#[derive(Clone, Copy)]
 pub struct Report {
     pub rolled: Rolled,
     pub not_zero: Count,

@@ -1,4 +1,5 @@
 // A batch of states, rolled up (document 01, "The batch"); made of states, and taken apart again.
+#![tactic(auto)]
 
 pub mod closing;
 pub mod packing;

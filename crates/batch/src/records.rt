@@ -8,7 +8,7 @@ use rollup::accumulator::Accumulator;
 use rollup::adding;
 
 // How the chain ended: with an index of zero; with a question's number, 24 or 25; or with more records than there are cells for answers.
-#[derive(Drop)]
+#[derive(Clone, Copy)]
 pub enum Ending {
     Whole,
     Refused(u8),
@@ -16,7 +16,7 @@ pub enum Ending {
 }
 
 // The accumulator after the last record, how many records there were, and how the chain ended.
-#[derive(Drop)]
+#[derive(Clone, Copy)]
 pub struct Rolled {
     pub head: Accumulator,
     pub records: usize,

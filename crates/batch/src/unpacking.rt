@@ -6,7 +6,7 @@ ghost use Rattle.batch.specs.Unpacking.{WalkedPost};
 use crate::records;
 
 // How many records the chain has, and the number that it ends with: 0, or 24, or 25 where the next record is none.
-#[derive(Drop)]
+#[derive(Clone, Copy)]
 pub struct Walked {
     pub records: usize,
     pub ending: u8,

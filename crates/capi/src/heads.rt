@@ -5,7 +5,7 @@ ghost use Rattle.capi.specs.Heads.{form_number, form_of, is_head, head_in, with_
 use rollup::accumulator::{Accumulator, Form};
 
 // The head that a row of numbers is; or the row is none.
-#[derive(Drop)]
+#[derive(Clone, Copy)]
 pub enum Head {
     Is(Accumulator),
     Unknown,

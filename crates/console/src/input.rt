@@ -5,7 +5,7 @@ ghost use Rattle.console.specs.Input.{DigitPost, FindPost, NumberPost, BytesPost
 use libc::{STDERR_FILENO, STDIN_FILENO};
 
 // A stream that was read: the whole of it, which has this many bytes; or a read failed; or the buffer is full, and there may be more.
-#[derive(Drop)]
+#[derive(Clone, Copy)]
 pub enum Stream {
     All(usize),
     Failed,
@@ -13,7 +13,7 @@ pub enum Stream {
 }
 
 // A stream that was read, and the read that ended it: how many bytes had come before it, and what it answered.
-#[derive(Drop)]
+#[derive(Clone, Copy)]
 pub struct Arrived {
     pub stream: Stream,
     pub before: usize,
@@ -21,21 +21,21 @@ pub struct Arrived {
 }
 
 // What is known after a read: this many bytes have come, and more may; or reading is done.
-#[derive(Drop)]
+#[derive(Clone, Copy)]
 pub enum Reading {
     More(usize),
     Done(Stream),
 }
 
 // A number, or a word that is none or does not fit.
-#[derive(Drop)]
+#[derive(Clone, Copy)]
 pub enum Number {
     Value(u64),
     Other,
 }
 
 // How many bytes were put, or a word that is no byte string, or one too long for the buffer.
-#[derive(Drop)]
+#[derive(Clone, Copy)]
 pub enum Bytes {
     Count(usize),
     Other,

@@ -1,5 +1,6 @@
 // What the programs share. `input` reads a stream: lines, words, numbers and byte strings. `output` makes the
 // text of an answer in a buffer, and writes it. `text` has the words of a line, lists of numbers, and the pieces of an answer.
+#![tactic(auto)]
 
 pub mod input;
 pub mod output;

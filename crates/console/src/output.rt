@@ -9,7 +9,7 @@ ghost use Rattle.console.specs.Output.{size_of, all_are, widened_of, HexPost, Si
 use libc::{STDERR_FILENO, STDOUT_FILENO};
 
 // What a program says, at the front of a slice that is lent with it: so many bytes for standard output, or so many of a message for standard error.
-#[derive(Drop)]
+#[derive(Clone, Copy)]
 pub enum Said {
     Out(usize),
     Err(usize),

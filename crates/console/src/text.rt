@@ -8,14 +8,14 @@ use crate::input::Number;
 use libc::STDOUT_FILENO;
 
 // A number of 32 bits, or a word that is none.
-#[derive(Drop)]
+#[derive(Clone, Copy)]
 pub enum Value {
     Is(u32),
     Other,
 }
 
 // How many values a list has, or a word that is no list, or one too long for the memory that is lent.
-#[derive(Drop)]
+#[derive(Clone, Copy)]
 pub enum Listed {
     Count(usize),
     Other,

@@ -9,14 +9,14 @@ use console::input;
 use console::input::Bytes;
 
 // Where the batch so far ends, and where the index stands that ends its chain.
-#[derive(Drop)]
+#[derive(Clone, Copy)]
 pub struct Place {
     pub last: usize,
     pub end: usize,
 }
 
 // A line is packed or empty, or spells no state, or there is no room for its record.
-#[derive(Drop)]
+#[derive(Clone, Copy)]
 pub enum Turn {
     Next(Place),
     Other,
@@ -24,7 +24,7 @@ pub enum Turn {
 }
 
 // How many bytes the batch has; or the number of the first line that spells no state, or whose record does not fit.
-#[derive(Drop)]
+#[derive(Clone, Copy)]
 pub enum Packed {
     Batch(usize),
     BadLine(usize),

@@ -9,7 +9,7 @@ use batch::unpacking;
 use console::output;
 
 // How many bytes the text has; or the chain is broken after so many records, with the number of a question; or the text is longer than the slice.
-#[derive(Drop)]
+#[derive(Clone, Copy)]
 pub enum Unpacked {
     Text(usize),
     Broken(usize, u8),

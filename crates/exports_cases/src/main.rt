@@ -1,6 +1,7 @@
 // Replays cases of `exports` and of walking a batch. A bar ends a case. Its first line starts with a number and a blank; the rest of that line is a remark,
 // and the line is printed. Where the number is above 0, the other lines are packed into so many bytes; where it is 0, the next line is a batch in
 // hexadecimal, which is walked.
+#![tactic(auto)]
 use batch::unpacking;
 use console::input;
 use console::input::{Bytes, Number};

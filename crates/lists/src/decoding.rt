@@ -10,7 +10,7 @@ use crate::values;
 use crate::values::Sparse;
 
 // What reading a gap finds: its value and the position after it. `gap_means` has document 01's number of each other case.
-#[derive(Drop)]
+#[derive(Clone, Copy)]
 pub enum Gap {
     Value(u32, usize),
     // The bytes end inside it.
@@ -20,14 +20,14 @@ pub enum Gap {
 }
 
 // What reading one value finds: the value and the position after its gap, or document 01's number of the refusal.
-#[derive(Drop)]
+#[derive(Clone, Copy)]
 pub enum Step {
     Next(u32, usize),
     Refused(u8),
 }
 
 // What reading a list finds: the number of its values, or document 01's number of the refusal.
-#[derive(Drop)]
+#[derive(Clone, Copy)]
 pub enum Decoded {
     Done(usize),
     Refused(u8),

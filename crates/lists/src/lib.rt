@@ -3,6 +3,7 @@
 // Ported from src/encoding.rs of zetasketch-rs at commit 9abe68bf87 (Apache-2.0, see NOTICE), without hashing and the unvalidated
 // decoders. Changed: lent slices and counts in the place of `Vec`, enums and document 01's numbers in the place of `Result` and strings, and a
 // contract on every function.
+#![tactic(auto)]
 
 pub mod checking;
 pub mod decoding;

@@ -6,7 +6,7 @@ ghost use Rattle.std.specs.Prelude.{◌≡◌, ◌+◌, ◌<◌, ◌≤◌, max,
 ghost use Rattle.lists.specs.Values.{Pair, SparseFits, NewPost, IndexPost, RankPost, marked, plain_end, marked_end, least_marked_rank, marked_rank_fits, valid, sparse_index, plain_rank, largest_rank, lowered_rank};
 
 // A pair of precisions, with the mark that goes with it.
-#[derive(Drop)]
+#[derive(Clone, Copy)]
 pub struct Sparse {
     pub normal_precision: u32,
     pub sparse_precision: u32,

@@ -1,6 +1,7 @@
 // Replays the vectors of `lists`: a case for each line of standard input, a line on standard output for each. What a case is, and how the
 // vectors were made, is said in compare/vectors/README.md. What a function of `lists` requires is asked of the operands first: a case that
 // does not have it is a bad case.
+#![tactic(auto)]
 ghost use Rattle.std.specs.Prelude.{◌≡◌, true, ◌≤◌, length};
 ghost use Rattle.lists.specs.Values.{SparseFits, valid};
 ghost use Rattle.lists.specs.Registers.{LowerPre};

@@ -1,4 +1,5 @@
 // The program `pack`: lines of states to a batch.
+#![tactic(auto)]
 fn main() {
     exports::programs::pack();
 }

@@ -1,6 +1,7 @@
 // What is said of a batch (document 01, "The batch"): "per record ordinal and answer; 24 or 25 prints ordinal (0 for 24) and number, and ends the
 // chain. Then p, s, value count, registers not zero; then the written state, or the writing refusal's number." Numbers are signed decimals, the
 // state is lowercase hexadecimal, and each line ends in a newline.
+#![tactic(auto)]
 ghost use Rattle.std.specs.Prelude.{◌<◌, length};
 ghost use Rattle.console.specs.Input.{ArrivedIn, StreamPost};
 ghost use Rattle.console.specs.Output.{SaidPost};
@@ -16,7 +17,7 @@ use libc::STDIN_FILENO;
 mod text;
 
 // What was heard of a stream: the report of a batch, or nothing where the stream could not be read.
-#[derive(Drop)]
+#[derive(Clone, Copy)]
 enum Heard {
     Batch(Report),
     Nothing,

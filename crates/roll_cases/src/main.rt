@@ -1,5 +1,6 @@
 // Replays the vectors of `roll`: each line of standard input is a batch, of which is printed what `roll` prints. What a line is, and how the
 // vectors were made, is said in compare/vectors/README.md.
+#![tactic(auto)]
 ghost use Rattle.std.specs.Prelude.{◌≡◌, ◌<◌, length};
 
 use console::input::Bytes;

@@ -1,4 +1,5 @@
 // The program `roll` on a standard input of one byte more than a batch may have, whose first record is good: 24, and not the roll-up of what fits a batch.
+#![tactic(auto)]
 fn main() {
     reporting::roll();
 }

@@ -7,7 +7,7 @@ ghost use Rattle.rollup.specs.Accumulator.{fresh, count_of, precisions_of, is_st
 // How many values wait at most.
 pub(crate) const MAX_PENDING: usize = 2048;
 
-#[derive(Drop)]
+#[derive(Clone, Copy)]
 pub enum Form {
     Unstarted,
     Sparse,
@@ -15,7 +15,7 @@ pub enum Form {
 }
 
 // Document 01's head. A signed number is carried as the unsigned one of the same bits.
-#[derive(Drop)]
+#[derive(Clone, Copy)]
 pub struct Accumulator {
     pub form: Form,
     // The type mask.
@@ -35,7 +35,7 @@ pub struct Accumulator {
 }
 
 // The precisions p and s, where something was added.
-#[derive(Drop)]
+#[derive(Clone, Copy)]
 pub enum Precisions {
     Pair(u32, u32),
     None,

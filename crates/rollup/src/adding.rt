@@ -17,7 +17,7 @@ use wire::state;
 use wire::state::Fields;
 
 // The answer's number, 0 for accepted, and the accumulator after the call.
-#[derive(Drop)]
+#[derive(Clone, Copy)]
 pub struct Added {
     pub answer: u8,
     pub head: Accumulator,
@@ -25,7 +25,7 @@ pub struct Added {
 
 // The same of a head that fits, and what is known of the list that is kept: `distinct` says that it is one that a merge can leave. An insertion need not walk such a
 // list first. New: the Rust inserts without looking (document 01, "Difference").
-#[derive(Drop)]
+#[derive(Clone, Copy)]
 pub struct AddedFitting {
     pub answer: u8,
     pub head: Accumulator,

@@ -4,7 +4,7 @@ ghost use Rattle.rollup.specs.Taking.{counted};
 
 use crate::accumulator::Accumulator;
 
-#[derive(Drop)]
+#[derive(Clone, Copy)]
 pub struct Incoming {
     // The type mask.
     pub mask: u8,

@@ -18,7 +18,7 @@ use wire::state;
 use wire::state::{Fields, Parsed};
 
 // A state that was accepted up to question 14, or 16, or document 01's number of the refusal.
-#[derive(Drop)]
+#[derive(Clone, Copy)]
 pub enum Judged {
     State(Fields),
     Refused(u8),

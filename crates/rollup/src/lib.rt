@@ -6,6 +6,7 @@
 //
 // The way of a state: `fitting` asks question 1, `judging` (with `header`) 2 to 20; `paths` says which path its values take; `taking` goes by the roll-up's form to
 // `starting`, `sparse_paths` or `dense_paths`; `adding` is all of it. `incoming` has the numbers of what is taken in.
+#![tactic(auto)]
 
 pub mod accumulator;
 pub mod adding;

@@ -11,7 +11,7 @@ use lists::inserting;
 use lists::values::Sparse;
 
 // The paths of values at a list roll-up.
-#[derive(Drop)]
+#[derive(Clone, Copy)]
 pub enum Path {
     // There are no values, or the roll-up has no list.
     None,

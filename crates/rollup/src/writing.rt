@@ -23,7 +23,7 @@ use wire::encoding::Encoded;
 use wire::state::{Fields, HllFields, Part};
 
 // The answer's number, 0 for written, and how many bytes were written.
-#[derive(Drop)]
+#[derive(Clone, Copy)]
 pub struct Written {
     pub answer: u8,
     pub len: usize,

@@ -1,5 +1,6 @@
 // Replays the vectors of `rollup`: sequences of calls, a line of standard input for each step and a line on standard output for each. What a
 // line is, and how the vectors were made, is said in compare/vectors/README.md.
+#![tactic(auto)]
 ghost use Rattle.std.specs.Prelude.{◌≡◌, ◌≤◌, ◌<◌, length};
 
 use console::input::Bytes;

@@ -1,5 +1,6 @@
 // What `read_all` makes of a stream, by running it: a descriptor that cannot be read; a buffer that is full before the stream ends; the rest of the stream,
 // which takes more than one read; and its end.
+#![tactic(auto)]
 use console::input::{Arrived, Stream};
 use console::{input, text};
 use libc::{STDIN_FILENO, STDOUT_FILENO};

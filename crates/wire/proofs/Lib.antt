@@ -9,5 +9,4 @@ pub mod BoundLaws
 pub mod FieldLaws
 pub mod CutLaws
 pub mod RoundTrip
-pub mod HeldLaws
 pub mod SmallListLaws

@@ -13,32 +13,32 @@ use crate::state::{
 use crate::varint::Cursor;
 
 // A varint of one byte.
-#[derive(Drop)]
+#[derive(Clone, Copy)]
 pub enum OneByte {
     Value(u32),
     Other,
 }
 
 // A field was read, or the layout is not known.
-#[derive(Drop)]
+#[derive(Clone, Copy)]
 pub enum CompactHllStep {
     Next(HllFields, Cursor),
     Other,
 }
 
-#[derive(Drop)]
+#[derive(Clone, Copy)]
 pub enum CompactHll {
     Read(HllFields),
     Other,
 }
 
-#[derive(Drop)]
+#[derive(Clone, Copy)]
 pub enum CompactStep {
     Next(Fields, Cursor),
     Other,
 }
 
-#[derive(Drop)]
+#[derive(Clone, Copy)]
 pub enum Compact {
     Read(Fields),
     Other,

@@ -9,7 +9,7 @@ use crate::state::{Fields, HllFields, data, sparse_data};
 use crate::varint::{put_varint, varint_len_64};
 
 // `Short` is document 01's 23: the output is too short, and nothing was written.
-#[derive(Drop)]
+#[derive(Clone, Copy)]
 pub enum Encoded {
     Written(usize),
     Short,

@@ -15,21 +15,21 @@ const LEN: u32 = 2;
 const I32: u32 = 5;
 
 // The tag at a cursor, or document 01's number of the refusal.
-#[derive(Drop)]
+#[derive(Clone, Copy)]
 pub enum Tag {
     Value(u32, Cursor),
     Refused(u8),
 }
 
 // Where the bytes of a field stand.
-#[derive(Drop)]
+#[derive(Clone, Copy)]
 pub enum Taken {
     Bytes { start: usize, end: usize },
     Refused(u8),
 }
 
 // Past a field.
-#[derive(Drop)]
+#[derive(Clone, Copy)]
 pub enum Skipped {
     To(Cursor),
     Refused(u8),

@@ -16,14 +16,14 @@ use crate::varint::{Cursor, Varint, read_varint, varint_refusal};
 use crate::view::view;
 
 // Where the bytes of a data field stand in the state's.
-#[derive(Drop)]
+#[derive(Clone, Copy)]
 pub struct Part {
     pub start: usize,
     pub len: usize,
 }
 
 // The fields of the nested message. A signed number is carried as the unsigned one of the same bits.
-#[derive(Drop)]
+#[derive(Clone, Copy)]
 pub struct HllFields {
     pub sparse_size: u32,
     // p, the normal precision.
@@ -39,7 +39,7 @@ pub struct HllFields {
 }
 
 // The fields of a state. `aggregator_type` is the Rust's `type`.
-#[derive(Drop)]
+#[derive(Clone, Copy)]
 pub struct Fields {
     pub aggregator_type: u32,
     pub num_values: u64,
@@ -49,25 +49,25 @@ pub struct Fields {
 }
 
 // A nested field was read, and the next one stands at the cursor; or document 01's number of the refusal.
-#[derive(Drop)]
+#[derive(Clone, Copy)]
 pub enum HllStep {
     Next(HllFields, Cursor),
     Refused(u8),
 }
 
-#[derive(Drop)]
+#[derive(Clone, Copy)]
 pub enum HllParsed {
     Read(HllFields),
     Refused(u8),
 }
 
-#[derive(Drop)]
+#[derive(Clone, Copy)]
 pub enum Step {
     Next(Fields, Cursor),
     Refused(u8),
 }
 
-#[derive(Drop)]
+#[derive(Clone, Copy)]
 pub enum Parsed {
     Read(Fields),
     Refused(u8),

@@ -4,13 +4,13 @@ ghost use Rattle.std.specs.Prelude.{◌≡◌, ◌+◌, ◌<◌, ◌≤◌, leng
 ghost use Rattle.wire.specs.Varints.{VarintPost, PutPost, varint_refusal, varint_bytes};
 
 // A place in a slice of bytes.
-#[derive(Drop)]
+#[derive(Clone, Copy)]
 pub struct Cursor {
     pub at: usize,
 }
 
 // What reading a varint finds. `varint_means` has document 01's number of each case.
-#[derive(Drop)]
+#[derive(Clone, Copy)]
 pub enum Varint {
     Value(u64, Cursor),
     // The bytes end inside it.

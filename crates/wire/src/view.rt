@@ -10,7 +10,7 @@ ghost use Rattle.wire.specs.View.{view_of};
 
 use crate::state::{Fields, Part};
 
-#[derive(Drop)]
+#[derive(Clone, Copy)]
 pub struct StateView<'a> {
     pub bytes: &'a [u8],
     pub fields: Fields,

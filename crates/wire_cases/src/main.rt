@@ -1,5 +1,6 @@
 // Replays the vectors of `wire`: a case for each line of standard input, a line on standard output for each. What a case is, and how the
 // vectors were made, is said in compare/vectors/README.md.
+#![tactic(auto)]
 ghost use Rattle.std.specs.Prelude.{◌≤◌, length};
 
 use console::text;

@@ -1,0 +1,13 @@
+-- The definition reads the same varint and sets the same number. A varint that cannot be read is refused by its own number.
+use borrow.Author.Rules.{rules}
+use Rattle.wire.proofs.ReadingLaws.{varint_refused}
+use Rattle.wire.proofs.StateLaws.{hll_refused, hll_number_read}
+use Rattle.wire.proofs.state.hll_number.Goals as goal
+
+pub returns-in_default : goal.returns-in_default
+returns-in_default c = λ base. hll_refused _ (varint_refused c.in_default.in_default-own.keys2 c.read_varint-r.ensures c.varint_refusal.ensures)
+
+pub returns : goal.returns
+returns c = λ base.
+    hll_number_read c.args.tag
+    (rw c.in-Value.is at c.read_varint-r.ensures) c.with_hll_number.ensures
