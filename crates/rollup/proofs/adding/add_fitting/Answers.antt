@@ -8,22 +8,22 @@ use Rattle.rollup.proofs.adding.add_fitting.Goals as goal
 
 pub returns-in_default : goal.returns-in_default
 returns-in_default c = let m : Mem = mem c.args.registers.now c.args.sparse.now c.args.pending.now in let room : ℕ = length c.args.scratch.now in record {
-      added =
-          judge_stop c.args.a m room c.args.bytes.now c.requires.fit c.judge-judged.result c.judged_refusal.result _ c.in_default.is c.judge-judged.ensures
-          c.judged_refusal.ensures;
-      sound = c.requires;
-    }
+  added =
+      judge_stop c.args.a m room c.args.bytes.now c.requires.fit c.judge-judged.result c.judged_refusal.result _ c.in_default.is c.judge-judged.ensures
+      c.judged_refusal.ensures;
+  sound = c.requires;
+}
 
 pub has_room-requires : goal.has_room-requires
 has_room-requires c = let m : Mem = mem c.args.registers.now c.args.sparse.now c.args.pending.now in let room : ℕ = length c.args.scratch.now in room_pre c.args.a m room c.args.bytes.now c.requires.fit c.judge-judged.result c.in-State.f c.in-State.is c.judge-judged.ensures
 
 pub returns-then-not-has_room : goal.returns-then-not-has_room
 returns-then-not-has_room c = let m : Mem = mem c.args.registers.now c.args.sparse.now c.args.pending.now in let room : ℕ = length c.args.scratch.now in record {
-      added =
-          room_stop c.args.a m room c.args.bytes.now c.requires.fit c.judge-judged.result c.in-State.f c.in-State.is c.judge-judged.ensures
-          (said_no c.has_room.ensures (not_from_false _ c.if-not-has_room.true));
-      sound = c.requires;
-    }
+  added =
+      room_stop c.args.a m room c.args.bytes.now c.requires.fit c.judge-judged.result c.in-State.f c.in-State.is c.judge-judged.ensures
+      (said_no c.has_room.ensures (not_from_false _ c.if-not-has_room.true));
+  sound = c.requires;
+}
 
 pub decode_listed-read-requires : goal.decode_listed-read-requires
 decode_listed-read-requires c = let m : Mem = mem c.args.registers.now c.args.sparse.now c.args.pending.now in let room : ℕ = length c.args.scratch.now in list_pre c.args.a m room c.args.bytes.now c.requires.fit c.judge-judged.result c.in-State.f c.in-State.is c.judge-judged.ensures
@@ -31,12 +31,12 @@ decode_listed-read-requires c = let m : Mem = mem c.args.registers.now c.args.sp
 
 pub returns-in_default-read : goal.returns-in_default-read
 returns-in_default-read c = let m : Mem = mem c.args.registers.now c.args.sparse.now c.args.pending.now in let room : ℕ = length c.args.scratch.now in record {
-      added =
-          list_stop c.args.a m room c.args.bytes.now c.requires.fit c.judge-judged.result c.in-State.f c.in-State.is c.judge-judged.ensures
-          (said_yes c.has_room.ensures (not_from_true _ c.if-not-has_room.false)) c.decode_listed-read.result c.decoded_refusal.result _ c.decode_listed-read.new.scratch c.in_default-read.is
-          c.decode_listed-read.ensures c.decoded_refusal.ensures;
-      sound = c.requires;
-    }
+  added =
+      list_stop c.args.a m room c.args.bytes.now c.requires.fit c.judge-judged.result c.in-State.f c.in-State.is c.judge-judged.ensures
+      (said_yes c.has_room.ensures (not_from_true _ c.if-not-has_room.false)) c.decode_listed-read.result c.decoded_refusal.result _ c.decode_listed-read.new.scratch c.in_default-read.is
+      c.decode_listed-read.ensures c.decoded_refusal.ensures;
+  sound = c.requires;
+}
 
 pub accept-requires : goal.accept-requires
 accept-requires c = let m : Mem = mem c.args.registers.now c.args.sparse.now c.args.pending.now in let room : ℕ = length c.args.scratch.now in accept_pre c.args.a m room c.args.bytes.now c.requires.fit c.judge-judged.result c.in-State.f c.in-State.is c.judge-judged.ensures

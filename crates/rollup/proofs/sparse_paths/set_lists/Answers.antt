@@ -8,10 +8,10 @@ set_list-requires c = record { fits = c.requires.fits; ok = c.requires.kept_vali
 
 pub set_registers-requires : goal.set_registers-requires
 set_registers-requires c = record {
-      fits = c.requires.fits;
-      ok = c.requires.waiting_valid;
-      room = set_room c.args.enc.normal_precision c.args.enc.sparse_precision c.args.registers.now c.requires.room c.args.kept.now _ c.set_list.ensures;
-    }
+  fits = c.requires.fits;
+  ok = c.requires.waiting_valid;
+  room = set_room c.args.enc.normal_precision c.args.enc.sparse_precision c.args.registers.now c.requires.room c.args.kept.now _ c.set_list.ensures;
+}
 
 pub returns : goal.returns
 returns c = both_set c.args.enc.normal_precision c.args.enc.sparse_precision c.args.registers.now c.requires.room c.args.kept.now c.args.waiting.now _ _ c.set_list.ensures c.set_registers.ensures
