@@ -1,6 +1,5 @@
-use Rattle.std.proofs.Common.{◌-◌, ◌^◌, ◌<◌, ◌≤◌, ◌++◌, drop, arith, rules}
-use Rattle.lists.specs.Registers.{registers_of, lowered}
-use Rattle.lists.proofs.RegisterLaws.{Done, lower_start, lower_block, lower_turn, lower_holds, lower_end, done_length}
+use Rattle.std.proofs.Common.{◌-◌, ◌^◌, ◌<◌, arith}
+use Rattle.lists.proofs.RegisterLaws.{lower_start, lower_block, lower_turn, lower_holds, lower_end, done_length}
 use Rattle.lists.proofs.registers.lower_blocks.Goals as goal
 
 pub loop-t-init : goal.loop-t-init

@@ -1,5 +1,5 @@
 -- The first registers are lowered, and the rest made zero.
-use Rattle.std.proofs.Common.{ℕ, ◌^◌, ◌≤◌, sym, ap, ◌∙◌, subst, rules}
+use Rattle.std.proofs.Common.{ℕ, ◌^◌, ◌≤◌, sym, ap, ◌∙◌, subst}
 use Rattle.lists.specs.Registers.{registers_of, with_registers, register_bytes, cleared_from}
 use Rattle.lists.proofs.RegisterLaws.{fewer_le, lower_whole}
 use Rattle.lists.proofs.registers.lower_registers.Goals as goal

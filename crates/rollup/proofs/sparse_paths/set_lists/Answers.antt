@@ -1,6 +1,5 @@
 -- One list after the other is set, which is both as one (`both_set`).
 use Rattle.rollup.proofs.SparseLaws.{set_room, both_set}
-use Rattle.std.proofs.Common.{rules}
 use Rattle.rollup.proofs.sparse_paths.set_lists.Goals as goal
 
 pub set_list-requires : goal.set_list-requires
