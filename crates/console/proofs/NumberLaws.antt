@@ -8,8 +8,8 @@ use native.Mathlib.Numerals.{add-one}
 use native.Mathlib.Omega.{arith}
 use lib.ListN.{length, take, length-append}
 use borrow.Author.Tests.{lt-ltb, le-ltb}
-use Rattle.io.specs.Counts.{IsPrefixLen}
-use Rattle.io.specs.Digits.{hex_digit_ascii, last_digits, IsDigitCount}
+use Rattle.std.specs.Counts.{IsPrefixLen}
+use Rattle.console.specs.Digits.{hex_digit_ascii, last_digits, IsDigitCount}
 use Rattle.console.specs.Output.{Decimal}
 use Rattle.console.specs.Numbers.{figures, decimal_text}
 use Rattle.console.proofs.InputLaws.{side}
