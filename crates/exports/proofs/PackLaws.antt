@@ -15,7 +15,7 @@ use Rattle.wire.specs.Varints.{PutPost}
 use Rattle.batch.specs.Chain.{chain_of}
 use Rattle.batch.specs.Packing.{word_bytes, record_bytes, packed, RecordPost}
 use Rattle.batch.proofs.PackingLaws.{Open, open_start, open_packed, open_behind, open_next, word_length, record_length, Finds, packed_chain}
-use Rattle.io.specs.Counts.{IsPrefixLen}
+use Rattle.std.specs.Counts.{IsPrefixLen}
 use Rattle.console.specs.Input.{up_to}
 use Rattle.exports.specs.declared.packing.Place.{Place}
 use Rattle.exports.specs.declared.packing.Turn.{Turn}

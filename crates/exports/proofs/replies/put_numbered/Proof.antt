@@ -1,4 +1,4 @@
--- The piece, and behind it the digits that `io::decimal` makes (`decimal_put`).
+-- The piece, and behind it the digits that `decimal` makes (`decimal_put`).
 use mathlib.Core.Path.{refl}
 use native.Mathlib.Omega.{arith}
 use Rattle.wire.proofs.EncodingLaws.{put_both, put_same}
