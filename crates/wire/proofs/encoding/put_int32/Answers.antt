@@ -10,7 +10,7 @@ returns-then-v-omitted c = put_none c.args.out.now c.args.at (int32_none c.args.
 
 pub put_number-requires : goal.put_number-requires
 put_number-requires c = let written : int32_unless c.args.omitted c.args.field c.args.v ≡ number_field c.args.field c.sign_extended.result = int32_is c.args.omitted c.args.field c.args.v c.if-v-omitted.false
-    ∙ ap (number_field c.args.field) (sym c.sign_extended.ensures) in same_room c.args.out.now c.args.at _ _ (written (c)) c.requires
+    ∙ ap (number_field c.args.field) (sym c.sign_extended.ensures) in same_room c.args.out.now c.args.at _ _ written c.requires
 
 pub returns : goal.returns
 returns c = let written : int32_unless c.args.omitted c.args.field c.args.v ≡ number_field c.args.field c.sign_extended.result = int32_is c.args.omitted c.args.field c.args.v c.if-v-omitted.false

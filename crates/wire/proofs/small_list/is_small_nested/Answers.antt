@@ -7,6 +7,7 @@ use borrow.Author.Rules.{rules}
 use borrow.Author.Tests.{not-false, eqb-true}
 use Rattle.wire.specs.SmallList.{NestedTagsPost}
 use Rattle.wire.proofs.SmallListLaws.{or_five, start_near, small_asked}
+use Rattle.std.proofs.lemmas.Bool.{not_from_true}
 use Rattle.wire.proofs.small_list.is_small_nested.Goals as goal
 
 pub overflow_add-at : goal.overflow_add-at
@@ -27,7 +28,7 @@ returns c = let s = c.args.s.now in
           record {
             room = c.if-n-at.false;
             short = c.if-at-n.false;
-            tags = subst (λ t. NestedTagsPost s c.args.at t) (not-false c.nested_tags.result c.if-not-nested_tags.false) c.nested_tags.ensures;
+            tags = subst (λ t. NestedTagsPost s c.args.at t) (c.if-not-nested_tags.false) c.nested_tags.ensures;
             size = b.second;
             precision = b.third;
             sparse_precision = b.fourth;

@@ -1,11 +1,12 @@
 -- The definition reads the same varint and sets the same number. A varint that cannot be read is refused by its own number.
+use borrow.Enum.Refused.{opened}
 use borrow.Author.Rules.{rules}
 use Rattle.wire.proofs.ReadingLaws.{varint_refused}
 use Rattle.wire.proofs.StateLaws.{hll_refused, hll_number_read}
 use Rattle.wire.proofs.state.hll_number.Goals as goal
 
 pub returns-in_default : goal.returns-in_default
-returns-in_default c = λ base. hll_refused _ (varint_refused c.in_default.in_default-own.keys2 c.read_varint-r.ensures c.varint_refusal.ensures)
+returns-in_default c = λ base. hll_refused _ (varint_refused (opened c.in_default.in_default-own.keys2) c.read_varint-r.ensures c.varint_refusal.ensures)
 
 pub returns : goal.returns
 returns c = λ base.

@@ -1,0 +1,12 @@
+-- What was found so far and whether the rest is valid make the whole.
+use Rattle.std.proofs.Common.{◌≡◌, ◌-◌, ◌&&◌, length, drop, sym, refl, ◌∙◌, rules}
+use Rattle.lists.specs.Values.{SparseFits}
+use Rattle.lists.specs.Lists.{all_valid}
+use Rattle.lists.proofs.CheckingLaws.{valid_turn, valid_end}
+use Rattle.lists.proofs.checking.all_valid.Given as goal
+
+abbrev pub invariant-loop-i : goal.invariant-loop-i
+invariant-loop-i l = (all_valid l.enc.normal_precision l.enc.sparse_precision l.l ≡ (l.all && all_valid l.enc.normal_precision l.enc.sparse_precision (drop l.i l.l))) × SparseFits l.enc
+
+abbrev pub decreases-loop-i : goal.decreases-loop-i
+decreases-loop-i l = length l.l - l.i

@@ -1,0 +1,13 @@
+-- The values stored so far and those of the rest make up the list (`Going`), and the two values that the loop keeps decide for all of them. The
+-- cells past those values are as they were.
+use Rattle.std.proofs.Common.{◌≡◌, ◌-◌, ◌≤◌, true, false, [], length, take, drop, sym, refl, subst, arith, length-set, rules}
+use Rattle.wire.proofs.BoolLaws.{said_yes, said_no}
+use Rattle.lists.proofs.CellLaws.{past_set}
+use Rattle.lists.proofs.DecodingLaws.{Going, going_start, going_next, going_stopped, going_end, going_stored, stored_stopped, stored_end}
+use Rattle.lists.proofs.decoding.decode_validated_into.Given as goal
+
+abbrev pub invariant-loop-at : goal.invariant-loop-at
+invariant-loop-at l = Going l.enc.normal_precision l.enc.sparse_precision l.bytes (take l.k l.out) l.at l.last l.plain × (length l.out ≡ length l.initial.out) × (length l.bytes ≤ length l.initial.out) × (drop l.k l.out ≡ drop l.k l.initial.out) × (l.k ≤ l.at)
+
+abbrev pub decreases-loop-at : goal.decreases-loop-at
+decreases-loop-at l = length l.bytes - l.at

@@ -1,0 +1,11 @@
+-- What both parts share is what was met twice and what the rests share; at the end a rest is empty.
+use Rattle.std.proofs.Common.{◌≡◌, ◌+◌, ◌-◌, length, get_or, refl, inl, inr, ⊎_elim, arith, rules}
+use Rattle.lists.proofs.MergeLaws.{valid_at}
+use Rattle.lists.proofs.IndexLaws.{Walking, walk_start, walk_on, walk_less, walk_out}
+use Rattle.lists.proofs.indices.distinct_indices.Given as goal
+
+abbrev pub invariant-loop-i : goal.invariant-loop-i
+invariant-loop-i l = (l.n ≡ length l.l) × Walking l.enc.normal_precision l.enc.sparse_precision l.l l.m l.i l.j l.twice
+
+abbrev pub decreases-loop-i : goal.decreases-loop-i
+decreases-loop-i l = l.m + l.n - (l.i + l.j)

@@ -1,0 +1,11 @@
+-- The loop's invariant: the count and the registers from i on that are not zero make the whole count.
+use Rattle.std.proofs.Common.{◌-◌, ◌^◌, ◌≤◌, arith, rules}
+use Rattle.lists.specs.Registers.{registers_of}
+use Rattle.lists.proofs.RegisterLaws.{not_yet, of_length, CountingNotZero, count_none, count_turn, count_end, first_held}
+use Rattle.lists.proofs.registers.count_not_zero.Given as goal
+
+abbrev pub invariant-loop-i : goal.invariant-loop-i
+invariant-loop-i l = CountingNotZero (registers_of l.p l.registers) l.count l.i × (l.i ≤ 2 ^ l.p)
+
+abbrev pub decreases-loop-i : goal.decreases-loop-i
+decreases-loop-i l = l.n - l.i

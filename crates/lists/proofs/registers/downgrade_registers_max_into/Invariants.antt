@@ -1,0 +1,11 @@
+-- The loop's invariant: the registers before t are the larger of both rows, the others as they were.
+use Rattle.std.proofs.Common.{◌+◌, ◌-◌, ◌^◌, ◌<◌, arith, rules}
+use Rattle.lists.specs.Registers.{registers_of, larger, lowered}
+use Rattle.lists.proofs.RegisterLaws.{Done, downgrade_start, downgrade_block, downgrade_turn, done_holds, done_length, done_end}
+use Rattle.lists.proofs.registers.downgrade_registers_max_into.Given as goal
+
+abbrev pub invariant-loop-t : goal.invariant-loop-t
+invariant-loop-t l = Done l.q (larger (registers_of l.q l.initial.target) (lowered l.d l.q (registers_of (l.q + l.d) l.source))) l.initial.target l.target l.t
+
+abbrev pub decreases-loop-t : goal.decreases-loop-t
+decreases-loop-t l = l.n - l.t
