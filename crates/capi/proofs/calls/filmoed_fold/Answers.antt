@@ -8,7 +8,6 @@ use Rattle.rollup.specs.Accumulator.{Mem, mem}
 use Rattle.capi.specs.Folds.{fold_fits}
 use Rattle.capi.proofs.CallLaws.{Found, found, missing, ten_cells}
 use Rattle.capi.proofs.FoldLaws.{fold_bad, fold_missing, row_unfit, row_folded}
-use borrow.Author.Rules.{rules}
 use Rattle.std.proofs.lemmas.Bool.{not_from_false, not_from_true}
 use Rattle.capi.proofs.calls.filmoed_fold.Goals as goal
 

@@ -3,7 +3,6 @@ use Prim.Native.Nat.{ℕ}
 use lib.ListN.{length}
 use Rattle.rollup.specs.Accumulator.{Mem, mem}
 use Rattle.capi.proofs.FoldLaws.{one_fits, one_state, one_refused}
-use borrow.Author.Rules.{rules}
 use Rattle.capi.proofs.folding.add_one.Goals as goal
 
 pub fold-r-requires : goal.fold-r-requires

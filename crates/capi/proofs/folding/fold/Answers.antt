@@ -4,7 +4,6 @@ use lib.ListN.{length}
 use Rattle.wire.proofs.BoolLaws.{said_yes, said_no}
 use Rattle.rollup.specs.Accumulator.{Mem, mem}
 use Rattle.capi.proofs.FoldLaws.{fold_unfit, fold_pre, fold_done}
-use borrow.Author.Rules.{rules}
 use Rattle.std.proofs.lemmas.Bool.{not_from_false, not_from_true}
 use Rattle.capi.proofs.folding.fold.Goals as goal
 

@@ -1,6 +1,5 @@
 -- First the cells, and then the ends.
 use Rattle.capi.proofs.FoldLaws.{too_few, enough}
-use borrow.Author.Rules.{rules}
 use Rattle.capi.proofs.folding.fold_fits.Goals as goal
 
 pub returns-then-answers-ends : goal.returns-then-answers-ends

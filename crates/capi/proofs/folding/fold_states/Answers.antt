@@ -1,15 +1,13 @@
-use Prim.Native.Nat.{ℕ, ◌-◌, ◌≤◌}
-use mathlib.Core.Path.{◌≡◌, refl, ◌∙◌, subst}
+use Prim.Native.Nat.{ℕ, ◌≤◌}
+use mathlib.Core.Path.{refl, ◌∙◌, subst}
 use native.Mathlib.Omega.{arith}
-use lib.ListN.{length, get_or, take, length-set}
+use lib.ListN.{length, get_or, length-set}
 use Rattle.wire.proofs.BoolLaws.{never}
 use Rattle.rollup.specs.declared.adding.Added.{Added}
 use Rattle.rollup.specs.Accumulator.{Mem, mem}
 use Rattle.rollup.specs.Adding.{AddPost}
-use Rattle.rollup.specs.Stages.{KnownDistinct}
 use Rattle.capi.specs.Folds.{between}
-use Rattle.capi.proofs.FoldLaws.{Folding, fold_start, state_from, state_to, fold_turn, fold_end}
-use borrow.Author.Rules.{rules}
+use Rattle.capi.proofs.FoldLaws.{fold_start, state_from, state_to, fold_turn, fold_end}
 use Rattle.capi.proofs.folding.fold_states.Goals as goal
 
 pub loop-i-init : goal.loop-i-init

@@ -2,7 +2,6 @@
 use native.Mathlib.Omega.{arith}
 use lib.ListN.{set, length-set}
 use Rattle.capi.proofs.HeadLaws.{head_put}
-use borrow.Author.Rules.{rules}
 use Rattle.capi.proofs.heads.put_head.Goals as goal
 
 pub bounds-row-1 : goal.bounds-row-1
