@@ -1,4 +1,4 @@
-//! The roll-up of `crates/capi` for Rust: a safe wrapper around `target/staticlib/libcapi.a`, which `rt staticlib capi` writes.
+//! The roll-up of `crates/capi` for Rust: a safe wrapper around `crates/capi/out/libcapi.a`, which `rt lib` writes there.
 //!
 //! A [`RollUp`] owns its head and the memory that is lent with it. Answers are the numbers of README.md's table.
 

@@ -1,4 +1,4 @@
-// The roll-up for programs in other languages: exported functions on numbers and slices, for `rt staticlib capi`.
+// The roll-up for programs in other languages: exported functions on numbers and slices, a static library.
 #![tactic(auto)]
 
 pub mod calls;
