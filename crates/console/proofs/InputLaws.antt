@@ -4,19 +4,15 @@ use mathlib.Core.List.{List, [], ◌∷◌, ◌++◌, append-nil}
 use mathlib.Core.Bool.{Bool, true, false, cond, true≢false}
 use mathlib.Core.Option.{Option, none, some}
 use mathlib.Core.Logic.{◌⊎◌, inl, inr}
+use Rattle.std.specs.Prelude.{Result, Ok, Err}
 use Prim.Native.Nat.{ℕ, zero, suc, ◌+◌, ◌*◌, ◌-◌, ◌/◌, ◌%◌, ◌^◌, ◌<◌, ◌≤◌}
-use native.Mathlib.Nat.{lt_of_le_of_lt}
 use native.Mathlib.Numerals.{add-one}
 use native.Mathlib.Omega.{arith}
 use lib.ListN.{length, set, drop, take, get_or, drop_of_length-le}
 use lib.Seq.{length-take-le, drop-cons, drop-drop, append_snoc, take-suc-set, drop-set-lt}
-use lib.Dec.{ltb, T, lit<}
-use lib.IntN.{ℤ, pos, negsuc, nat_abs}
-use lib.Signed.{lt_z, non_neg, pos-nat_abs, nat_abs-le}
-use mir.Syntax.{w64}
-use mir.Val.{Fits, SFits}
+use lib.Dec.{ltb}
 use borrow.Author.Tests.{lt-ltb, le-ltb, ltb-true, ltb-false, eq-eqb, ne_eqb}
-use Rattle.io.specs.Counts.{IsPrefixLen}
+use Rattle.std.specs.Counts.{IsPrefixLen}
 use Rattle.console.specs.declared.input.Bytes.{Bytes}
 use Rattle.console.specs.declared.input.Bytes.TheVariants.{Count}
 use Rattle.console.specs.declared.input.Stream.{Stream}
@@ -222,60 +218,49 @@ hex_done word before out i n e l room whole rest same = (
 
 -- ---- a read
 
--- A number that is not below 0, as `got < 0` leaves it: z is what the machine reads back of `got`.
-pub not_below : (z : ℤ) → lt_z z (pos 0) ≡ false → T (non_neg z)
-not_below (pos k) h = tt
-not_below (negsuc k) h = absurd (true≢false h)
+pub reading_failed : {E : Type 0} (n len : ℕ) {got : Result ℕ E} {x : E} → got ≡ Err x → Done Failed ≡ reading_of n got len
+unfolding reading_of
+reading_failed {E} n len e = ap (λ (r : Result ℕ E). reading_of n r len) (sym e)
 
--- What was read, as it is cast.
-pub got_fits : (z : ℤ) → SFits w64 z → Fits w64 (nat_abs z)
-got_fits z f = record { fits = lt_of_le_of_lt (nat_abs-le z f.sfits) (lit< tt) }
+module _ {E : Type 0} (n len k : ℕ) {got : Result ℕ E} (e : got ≡ Ok k) where
+  abbrev counted_by : Result ℕ E
+  counted_by = Ok k
 
-module _ (n len : ℕ) (z got : ℤ) (e : z ≡ got) where
-  pub reading_failed : lt_z z (pos 0) ≡ true → Done Failed ≡ reading_of n got len
+  counted_is : reading_of n counted_by len ≡ reading_of n got len
+  counted_is = ap (λ (x : Result ℕ E). reading_of n x len) (sym e)
+
+  pub reading_full : len ≤ n + k → Done Full ≡ reading_of n got len
   unfolding reading_of
-  reading_failed h = below z h ∙ ap (λ (x : ℤ). reading_of n x len) e
+  reading_full full = sym (rw (le-ltb (n + k) len full)) ∙ counted_is
+
+  pub reading_all : n + k < len → k ≡ 0 → Done (All n) ≡ reading_of n got len
+  unfolding reading_of
+  reading_all room end = sym (rw (lt-ltb (n + k) len room) (ap (λ (j : ℕ). so_far j n) end)) ∙ counted_is
+
+  pub reading_more : n + k < len → 0 < k → More (n + k) ≡ reading_of n got len
+  unfolding reading_of
+  reading_more room came = sym (rw (lt-ltb (n + k) len room) (next k came)) ∙ counted_is
     where
-      below : (x : ℤ) → lt_z x (pos 0) ≡ true → Done Failed ≡ reading_of n x len
-      below (pos k) h = let z : ⊥ = omega (arith, ltb-true k 0 h) in absurd z
-      below (negsuc k) h = refl
-
-  module _ (h : lt_z z (pos 0) ≡ false) where
-    counted_is : reading_of n (pos (nat_abs z)) len ≡ reading_of n got len
-    counted_is = ap (λ (x : ℤ). reading_of n x len) (pos-nat_abs z (not_below z h) ∙ e)
-
-    pub reading_full : len ≤ n + nat_abs z → Done Full ≡ reading_of n got len
-    unfolding reading_of
-    reading_full full = sym (rw (le-ltb (n + nat_abs z) len full)) ∙ counted_is
-
-    pub reading_all : n + nat_abs z < len → nat_abs z ≡ 0 → Done (All n) ≡ reading_of n got len
-    unfolding reading_of
-    reading_all room end = sym (rw (lt-ltb (n + nat_abs z) len room) (ap (λ (k : ℕ). so_far k n) end)) ∙ counted_is
-
-    pub reading_more : n + nat_abs z < len → 0 < nat_abs z → More (n + nat_abs z) ≡ reading_of n got len
-    unfolding reading_of
-    reading_more room came = sym (rw (lt-ltb (n + nat_abs z) len room) (next (nat_abs z) came)) ∙ counted_is
-      where
-        next : (k : ℕ) → 0 < k → so_far k n ≡ More (n + k)
-        next zero h = let z : ⊥ = omega arith in absurd z
-        next (suc k) h = refl
+      next : (k : ℕ) → 0 < k → so_far k n ≡ More (n + k)
+      next zero h = let z : ⊥ = omega arith in absurd z
+      next (suc k) h = refl
 
 -- More bytes than before have come, and the buffer has room for others; or what is known of the stream is what `read_all` promises.
 abbrev pub Goes : ℕ → List ℕ → Reading → Type 0
 Goes n buf (More m) = (n < m) × (m < length buf)
 Goes n buf (Done stream) = StreamPost buf stream
 
-reading_goes : (buf : List ℕ) (n : ℕ) (got : ℤ) → Goes n buf (reading_of n got (length buf))
+reading_goes : {E : Type 0} (buf : List ℕ) (n : ℕ) (got : Result ℕ E) → Goes n buf (reading_of n got (length buf))
 unfolding reading_of
-reading_goes buf n (negsuc k) = tt
-reading_goes buf n (pos k) = go k (ltb (n + k) (length buf)) refl
+reading_goes buf n (Err e) = tt
+reading_goes buf n (Ok k) = go k (ltb (n + k) (length buf)) refl
   where
     go : (k : ℕ) (t : Bool) → ltb (n + k) (length buf) ≡ t → Goes n buf (cond t (so_far k n) (Done Full))
     go zero true e = let h = ltb-true (n + 0) (length buf) e in (omega arith, (omega arith, sym (length-take-le n buf (omega arith))))
     go (suc k) true e = (omega arith, ltb-true (n + suc k) (length buf) e)
     go k false e = tt
 
-pub reading_next : (buf : List ℕ) (n : ℕ) (got : ℤ) {r s : Reading} → r ≡ s → r ≡ reading_of n got (length buf) → Goes n buf s
+pub reading_next : {E : Type 0} (buf : List ℕ) (n : ℕ) (got : Result ℕ E) {r s : Reading} → r ≡ s → r ≡ reading_of n got (length buf) → Goes n buf s
 reading_next buf n got e h = subst (Goes n buf) (sym h ∙ e) (reading_goes buf n got)
 
 -- What is known of a stream that was read.

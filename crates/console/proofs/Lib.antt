@@ -4,3 +4,4 @@ pub mod OutputLaws
 pub mod RoundTrip
 pub mod TextLaws
 pub mod NumberLaws
+pub mod Powers

@@ -8,8 +8,8 @@ use native.Mathlib.Numerals.{add-one}
 use native.Mathlib.Omega.{arith}
 use lib.ListN.{length, take, length-append}
 use borrow.Author.Tests.{lt-ltb, le-ltb}
-use Rattle.io.specs.Counts.{IsPrefixLen}
-use Rattle.io.specs.Digits.{hex_digit_ascii, last_digits, IsDigitCount}
+use Rattle.std.specs.Counts.{IsPrefixLen}
+use Rattle.console.specs.Digits.{hex_digit_ascii, last_digits, IsDigitCount}
 use Rattle.console.specs.Output.{Decimal}
 use Rattle.console.specs.Numbers.{figures, decimal_text}
 use Rattle.console.proofs.InputLaws.{side}
@@ -112,7 +112,7 @@ decimal_one n t h d = d.figures ∙ ap (λ (k : ℕ). last_digits 10 k n) (fewes
 pub decimal_short : (n : ℕ) → length (decimal_text n) ≤ 20
 decimal_short n = omega (arith, digits_length (figures 20 n) n, figures_few 20 n)
 
--- What `io::decimal` leaves in its buffer.
+-- What `decimal` leaves in its buffer.
 pub decimal_put : (n k : ℕ) (text : List ℕ) → n < 2 ^ 64 → IsPrefixLen k text → IsDigitCount 10 1 n k → take k text ≡ last_digits 10 k n → take k text ≡ decimal_text n
 decimal_put n k text h counts fewest e =
     decimal_one n (take k text) (omega arith)

@@ -11,8 +11,8 @@ use mathlib.Core.Logic.{⊎_elim}
 use native.Mathlib.Nat.{pow-le-pow_right}
 use borrow.Author.Tests.{lt-ltb, le-ltb, eq-eqb, ne_eqb}
 use borrow.Rule.Slice.PartMut.{mid_of, post_of, put_mid}
-use Rattle.io.specs.Digits.{hex_digit_ascii, last_digits, IsDigitCount}
-use Rattle.io.specs.Counts.{IsPrefixLen}
+use Rattle.console.specs.Digits.{hex_digit_ascii, last_digits, IsDigitCount}
+use Rattle.std.specs.Counts.{IsPrefixLen}
 use Rattle.console.proofs.InputLaws.{side}
 use Rattle.console.specs.declared.output.Said.{Said}
 use Rattle.console.specs.declared.output.Said.TheVariants.{Out, Err}
@@ -190,7 +190,7 @@ placed out piece after at r e room whole = (
 
 -- ---- signed decimals
 
--- The digits that `io::decimal` puts at the front of its buffer.
+-- The digits that `decimal` puts at the front of its buffer.
 pub record Digits (n : ℕ) (buf : List ℕ) (k : ℕ) : Type 0 where
   pub few : k ≤ 20
   pub counts : IsPrefixLen k buf

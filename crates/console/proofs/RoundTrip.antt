@@ -6,7 +6,7 @@ use mathlib.Core.Option.{some}
 use Prim.Native.Nat.{ℕ, ◌+◌, ◌*◌, ◌/◌, ◌%◌, ◌<◌, ◌≤◌}
 use native.Mathlib.Omega.{arith}
 use borrow.Author.Tests.{lt-ltb, le-ltb}
-use Rattle.io.specs.Digits.{hex_digit_ascii}
+use Rattle.console.specs.Digits.{hex_digit_ascii}
 use Rattle.console.specs.Input.{digit_of, byte_then, hex_of}
 use Rattle.console.specs.Output.{hex_text}
 use Rattle.console.proofs.InputLaws.{side, digit_figure, digit_letter, byte_both}

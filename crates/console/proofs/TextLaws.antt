@@ -9,7 +9,7 @@ use lib.Dec.{ltb}
 use lib.ListN.{length, set, take, drop, get_or, length-drop, drop_of_length-le}
 use lib.Seq.{length-take-le, drop-cons, drop-drop}
 use borrow.Author.Tests.{le-ltb, ltb-false, eq-eqb, ne_eqb}
-use Rattle.io.specs.Counts.{IsPrefixLen}
+use Rattle.std.specs.Counts.{IsPrefixLen}
 use Rattle.console.specs.declared.input.Number.{Number}
 use Rattle.console.specs.declared.input.Number.TheVariants.{Value as NumberValue, Other as NumberOther}
 use Rattle.console.specs.declared.text.Value.{Value}

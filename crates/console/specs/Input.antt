@@ -1,7 +1,7 @@
 -- What reading a stream and its words finds.
-use Rattle.std.specs.Prelude.{◌≡◌, List, [], ◌∷◌, ◌++◌, cond, ◌⊎◌, ℕ, zero, suc, ◌+◌, ◌*◌, ◌-◌, ◌/◌, ◌^◌, ◌≤◌, ◌<◌, ltb, eqb, ℤ, pos, negsuc, length, take, drop}
+use Rattle.std.specs.Prelude.{◌≡◌, List, [], ◌∷◌, ◌++◌, cond, ◌⊎◌, ℕ, zero, suc, ◌+◌, ◌*◌, ◌-◌, ◌/◌, ◌^◌, ◌≤◌, ◌<◌, ltb, eqb, Result, Ok, Err, length, take, drop}
 use Rattle.std.proofs.Math.Option.{Option, none, some}
-use Rattle.io.specs.Counts.{IsPrefixLen}
+use Rattle.std.specs.Counts.{IsPrefixLen}
 use Rattle.console.specs.declared.input.Stream.{Stream}
 use Rattle.console.specs.declared.input.Stream.TheVariants.{All, Failed, Full}
 use Rattle.console.specs.declared.input.Arrived.{Arrived}
@@ -17,11 +17,11 @@ abbrev pub so_far : ℕ → ℕ → Reading
 so_far zero n = Done (All n)
 so_far (suc k) n = More (n + suc k)
 
--- n bytes of a buffer of `len` have come, and one more read, into the rest of it, has answered `got`: below 0 it failed, else so many bytes more came. A
+-- n bytes of a buffer of `len` have come, and one more read, into the rest of it, has answered `got`: an error where it failed, else so many bytes more came. A
 -- buffer without a byte to spare is full, and does not tell whether the stream has ended.
-unfoldable pub reading_of : ℕ → ℤ → ℕ → Reading
-reading_of n (negsuc k) len = Done Failed
-reading_of n (pos k) len = cond (ltb (n + k) len) (so_far k n) (Done Full)
+unfoldable pub reading_of : {E : Type 0} → ℕ → Result ℕ E → ℕ → Reading
+reading_of n (Err e) len = Done Failed
+reading_of n (Ok k) len = cond (ltb (n + k) len) (so_far k n) (Done Full)
 
 -- A stream that was read into this buffer is what the read that ended it makes of it.
 abbrev pub ArrivedIn : List ℕ → Arrived → Type 0

@@ -3,3 +3,4 @@ pub mod Input
 pub mod Output
 pub mod Text
 pub mod Numbers
+pub mod Digits

@@ -1,7 +1,7 @@
 -- A number as text. `Decimal` (specs/Output) says by a relation which text a number has; here is the text itself. That `Decimal` allows it of each number
 -- of at most 20 digits, and no other text, is shown in proofs/NumberLaws (`decimal_is`, `decimal_one`).
 use Rattle.std.specs.Prelude.{List, cond, ℕ, zero, suc, ◌+◌, ◌/◌, ltb}
-use Rattle.io.specs.Digits.{last_digits}
+use Rattle.console.specs.Digits.{last_digits}
 
 -- How many decimal digits n has, of at most k.
 unfoldable pub figures : ℕ → ℕ → ℕ

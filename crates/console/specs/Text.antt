@@ -1,7 +1,7 @@
 -- The words of a line, and what reading a number of 32 bits and a list answers.
 use Rattle.std.specs.Prelude.{◌≡◌, List, [], ◌∷◌, cond, ℕ, zero, suc, ◌+◌, ◌/◌, ◌^◌, ◌≤◌, ltb, eqb, length, take, drop}
 use Rattle.std.proofs.Math.Option.{Option, none, some}
-use Rattle.io.specs.Counts.{IsPrefixLen}
+use Rattle.std.specs.Counts.{IsPrefixLen}
 use Rattle.console.specs.declared.text.Value.{Value}
 use Rattle.console.specs.declared.text.Value.TheVariants.{Is, Other as ValueOther}
 use Rattle.console.specs.declared.text.Listed.{Listed}

@@ -2,7 +2,9 @@
 ghost use Rattle.std.specs.Prelude.{◌≡◌, ◌≤◌, ◌<◌};
 ghost use Rattle.console.specs.Input.{DigitPost, FindPost, NumberPost, BytesPost, reading_of, ReadPost, CasesPost};
 
-use libc::{STDERR_FILENO, STDIN_FILENO};
+use crate::output::complain;
+use std::io;
+use std::io::{Read, Stderr, Stdin};
 
 // A stream that was read: the whole of it, which has this many bytes; or a read failed; or the buffer is full, and there may be more.
 #[derive(Clone, Copy)]
@@ -17,7 +19,7 @@ pub enum Stream {
 pub struct Arrived {
     pub stream: Stream,
     pub before: usize,
-    pub got: isize,
+    pub got: io::Result<usize>,
 }
 
 // What is known after a read: this many bytes have come, and more may; or reading is done.
@@ -43,13 +45,12 @@ pub enum Bytes {
 
 // n bytes of a buffer of `len` have come, and one more read, into the rest of it, has answered `got`. A failed read is told apart from the end, and
 // a buffer that is full from a stream that is all there.
-pub fn after_read(n: usize, got: isize, len: usize) -> Reading
+pub fn after_read(n: usize, got: io::Result<usize>, len: usize) -> Reading
     ensures { result ≡ reading_of n got len }
 {
-    if got < 0 {
+    let Ok(k) = got else {
         return Reading::Done(Stream::Failed);
-    }
-    let k = got as usize;
+    };
     if len <= n {
         return Reading::Done(Stream::Full);
     }
@@ -74,13 +75,13 @@ fn piece_end(n: usize, len: usize) -> usize
 }
 
 // Reads to the end. What a read puts into the buffer, and that the answer that is handed on is a read's, no contract reaches: so little else stands here.
-pub fn read_all(fd: i32, buf: &mut [u8]) -> Arrived
+pub fn read_all<R: Read>(reader: &mut R, buf: &mut [u8]) -> Arrived
     ensures { ReadPost buf.old result buf.new }
 {
     let mut n: usize = 0;
     loop {
         let end = piece_end(n, buf.len());
-        let got = libc::read(fd, &mut buf[n..end]);
+        let got = reader.read(&mut buf[n..end]);
         match after_read(n, got, buf.len()) {
             Reading::More(m) => n = m,
             Reading::Done(stream) => {
@@ -95,17 +96,14 @@ pub fn read_all(fd: i32, buf: &mut [u8]) -> Arrived
 }
 
 // The cases that a program replays: how many bytes of standard input. Where it cannot be read to its end there are none, and the program says so.
-pub fn read_cases(program: &[u8], buf: &mut [u8]) -> usize
+pub fn read_cases(mut stdin: Stdin, stderr: Stderr, program: &[u8], buf: &mut [u8]) -> usize
     ensures { CasesPost buf.old result buf.new }
 {
-    let r = read_all(STDIN_FILENO, buf);
+    let r = read_all(&mut stdin, buf);
     let stream = r.stream;
     let Stream::All(n) = stream else {
-        io::write_all(STDERR_FILENO, program);
-        io::write_all(
-            STDERR_FILENO,
-            b": standard input cannot be read, or is too long\n",
-        );
+        complain(stderr, program);
+        complain(stderr, b": standard input cannot be read, or is too long\n");
         return 0;
     };
     n

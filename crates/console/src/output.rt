@@ -1,12 +1,13 @@
 // Making the text of an answer in a buffer, and writing it. What is written no contract can say, so `say` and each `print` function hand a text that was
-// made by a function with a contract to `io::write_all`. A write that fails leaves the output short, which `say` tells and a comparison shows.
+// made by a function with a contract to the writer. A write that fails leaves the output short, which `say` tells and a comparison shows.
 ghost use Rattle.std.specs.Prelude.{◌≡◌, ◌+◌, ◌*◌, ◌≤◌, ◌<◌, length};
 ghost use Rattle.std.proofs.lemmas.List.Edits.{sets};
-ghost use Rattle.io.specs.Digits.{hex_digit_ascii as Digits·glyph};
-ghost use Rattle.io.specs.Counts.{IsPrefixLen};
+ghost use Rattle.console.specs.Digits.{hex_digit_ascii as Digits·glyph};
+ghost use Rattle.std.specs.Counts.{IsPrefixLen};
 ghost use Rattle.console.specs.Output.{size_of, all_are, widened_of, HexPost, SignedPost};
 
-use libc::{STDERR_FILENO, STDOUT_FILENO};
+use crate::numbers::decimal;
+use std::io::{Stderr, Stdout};
 
 // What a program says, at the front of a slice that is lent with it: so many bytes for standard output, or so many of a message for standard error.
 #[derive(Clone, Copy)]
@@ -83,55 +84,65 @@ pub fn signed(v: u64, out: &mut [u8]) -> usize
 {
     let mut digits = [0u8; 20];
     if v < 0x8000_0000_0000_0000 {
-        let n = io::decimal(v, &mut digits);
+        let n = decimal(v, &mut digits);
         put(out, 0, &digits[..n]);
         return n;
     }
-    let n = io::decimal(0xffff_ffff_ffff_ffff - v + 1, &mut digits);
+    let n = decimal(0xffff_ffff_ffff_ffff - v + 1, &mut digits);
     out[0] = b'-';
     put(out, 1, &digits[..n]);
     n + 1
 }
 
-fn complain(message: &[u8]) {
-    io::write_all(STDERR_FILENO, message);
+// Writes bytes. One that fails leaves the output short.
+fn write(to: &impl Print, bytes: &[u8]) {
+    let _ = to.write_all(bytes);
+}
+
+pub(crate) fn complain(stderr: Stderr, message: &[u8]) {
+    write(&stderr, message);
 }
 
 // Says it. Where standard output cannot be written, the program of this name says so on standard error. What reaches a descriptor no contract can say.
-pub fn say(program: &[u8], said: Said, text: &[u8])
+pub fn say(stdout: Stdout, stderr: Stderr, program: &[u8], said: Said, text: &[u8])
     requires { IsPrefixLen (size_of said) text.now }
 {
     match said {
         Said::Out(n) => {
-            if !io::write_all(STDOUT_FILENO, &text[..n]) {
-                complain(program);
-                complain(b": standard output cannot be written\n");
+            if stdout.write_all(&text[..n]).is_err() {
+                complain(stderr, program);
+                complain(stderr, b": standard output cannot be written\n");
             }
         }
-        Said::Err(n) => complain(&text[..n]),
+        Said::Err(n) => complain(stderr, &text[..n]),
     }
 }
 
-pub fn print_signed(fd: i32, v: u64) {
-    let mut text = [0u8; 21];
-    let n = signed(v, &mut text);
-    io::write_all(fd, &text[..n]);
+// Writes bytes to standard output.
+pub fn print(stdout: Stdout, bytes: &[u8]) {
+    write(&stdout, bytes);
 }
 
-fn print_some(fd: i32, bytes: &[u8])
+pub fn print_signed(to: &impl Print, v: u64) {
+    let mut text = [0u8; 21];
+    let n = signed(v, &mut text);
+    write(to, &text[..n]);
+}
+
+fn print_some(to: &impl Print, bytes: &[u8])
     requires { length bytes.now ≤ 2048 }
 {
     let mut text = [0u8; 4096];
     let n = hex(bytes, &mut text);
-    io::write_all(fd, &text[..n]);
+    write(to, &text[..n]);
 }
 
-pub fn print_hex(fd: i32, bytes: &[u8]) {
+pub fn print_hex(to: &impl Print, bytes: &[u8]) {
     let mut at: usize = 0;
     while bytes.len() - at > 2048 {
         let end = at + 2048;
-        print_some(fd, &bytes[at..end]);
+        print_some(to, &bytes[at..end]);
         at = end;
     }
-    print_some(fd, &bytes[at..]);
+    print_some(to, &bytes[at..]);
 }

@@ -5,7 +5,9 @@ ghost use Rattle.console.specs.Input.{decimal_of, below64};
 ghost use Rattle.console.specs.Text.{word_of, WordStart, value_means, below32, or_zero, values_in, list_in, ListedPost};
 
 use crate::input::Number;
-use libc::STDOUT_FILENO;
+use crate::numbers::decimal;
+use crate::output::print;
+use std::io::Stdout;
 
 // A number of 32 bits, or a word that is none.
 #[derive(Clone, Copy)]
@@ -126,59 +128,61 @@ pub fn read_list(word: &[u8], out: &mut [u32]) -> Listed
     read_values(word, out)
 }
 
-pub fn end_line() {
-    io::write_all(STDOUT_FILENO, b"\n");
+pub fn end_line(stdout: Stdout) {
+    print(stdout, b"\n");
 }
 
-pub fn space() {
-    io::write_all(STDOUT_FILENO, b" ");
+pub fn space(stdout: Stdout) {
+    print(stdout, b" ");
 }
 
-pub fn bad_case() {
-    io::write_all(STDOUT_FILENO, b"bad case\n");
+pub fn bad_case(stdout: Stdout) {
+    print(stdout, b"bad case\n");
 }
 
 // What a line that only sets something prints.
-pub fn print_ok() {
-    io::write_all(STDOUT_FILENO, b"ok\n");
+pub fn print_ok(stdout: Stdout) {
+    print(stdout, b"ok\n");
 }
 
-pub fn print_number(v: u64) {
-    io::print_decimal(STDOUT_FILENO, v);
+pub fn print_number(stdout: Stdout, v: u64) {
+    let mut digits = [0u8; 20];
+    let n = decimal(v, &mut digits);
+    print(stdout, &digits[..n]);
 }
 
-pub fn print_value(v: u32) {
-    print_number(v as u64);
+pub fn print_value(stdout: Stdout, v: u32) {
+    print_number(stdout, v as u64);
 }
 
-pub fn print_bool(b: bool) {
+pub fn print_bool(stdout: Stdout, b: bool) {
     if b {
-        io::write_all(STDOUT_FILENO, b"1");
+        print(stdout, b"1");
     } else {
-        io::write_all(STDOUT_FILENO, b"0");
+        print(stdout, b"0");
     }
 }
 
-pub fn print_refused(n: u8) {
-    io::write_all(STDOUT_FILENO, b"refused ");
-    print_number(n as u64);
+pub fn print_refused(stdout: Stdout, n: u8) {
+    print(stdout, b"refused ");
+    print_number(stdout, n as u64);
 }
 
-pub fn print_hex(bytes: &[u8]) {
-    crate::output::print_hex(STDOUT_FILENO, bytes);
+pub fn print_hex(stdout: Stdout, bytes: &[u8]) {
+    crate::output::print_hex(&stdout, bytes);
 }
 
 // A list as `read_list` reads it.
-pub fn print_list(l: &[u32]) {
+pub fn print_list(stdout: Stdout, l: &[u32]) {
     if l.len() == 0 {
-        io::write_all(STDOUT_FILENO, b".");
+        print(stdout, b".");
         return;
     }
-    print_value(l[0]);
+    print_value(stdout, l[0]);
     let mut i: usize = 1;
     while i < l.len() {
-        io::write_all(STDOUT_FILENO, b",");
-        print_value(l[i]);
+        print(stdout, b",");
+        print_value(stdout, l[i]);
         i += 1;
     }
 }

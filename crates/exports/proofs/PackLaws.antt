@@ -3,19 +3,17 @@ use mathlib.Core.Path.{◌≡◌, refl, sym, ap, ap₂, ◌∙◌, subst}
 use mathlib.Core.List.{List, [], ◌∷◌, ◌++◌, append_assoc, append-nil}
 use mathlib.Core.Bool.{Bool, true, false, cond}
 use mathlib.Core.Option.{none, some}
-use mathlib.Core.Logic.{◌⊎◌, inl, inr}
 use Prim.Native.Nat.{ℕ, suc, ◌+◌, ◌-◌, ◌<◌, ◌≤◌}
 use native.Mathlib.Omega.{arith}
 use lib.Dec.{leb}
 use lib.ListN.{length, take, drop, set, drop_of_length-le, take-append-drop}
 use lib.Seq.{sets, sets-eq, length-sets, take_at, drop-drop, drop-set-lt, length-take-le}
 use borrow.Author.Tests.{le-leb, lt-leb, leb-true}
-use denote.Enum.Declared as E
 use Rattle.wire.specs.Varints.{PutPost}
 use Rattle.batch.specs.Chain.{chain_of}
 use Rattle.batch.specs.Packing.{word_bytes, record_bytes, packed, RecordPost}
 use Rattle.batch.proofs.PackingLaws.{Open, open_start, open_packed, open_behind, open_next, word_length, record_length, Finds, packed_chain}
-use Rattle.io.specs.Counts.{IsPrefixLen}
+use Rattle.std.specs.Counts.{IsPrefixLen}
 use Rattle.console.specs.Input.{up_to}
 use Rattle.exports.specs.declared.packing.Place.{Place}
 use Rattle.exports.specs.declared.packing.Turn.{Turn}
@@ -24,7 +22,6 @@ use Rattle.exports.specs.declared.packing.Packed.{Packed}
 use Rattle.exports.specs.declared.packing.Packed.TheVariants.{Batch}
 use Rattle.exports.specs.Lines.{lines_of, trimmed, state_of, Held, nothing, state, other, held_by, held}
 use Rattle.exports.specs.Packing.{Stop, finished, bad, long, Packing, stops, after, line_then, packing, packing_of, FitPost, TurnPost, refusal, packed_by, PackedPost}
-use Rattle.exports.specs.contracts.packing.Turn.{enum as turn-enum}
 use Rattle.exports.proofs.LineLaws.{line_at}
 
 -- ---- one line
@@ -153,13 +150,10 @@ module _ (text entry spare left old : List ℕ) (first : ℕ) (began : PutPost e
       (g.whole ∙ ap (λ (l : List ℕ). after g.done (packing (length old) line p.end (lines_of l))) (drop_of_length-le text h))
 
 abbrev pub NoNext : Turn → Type 0
-NoNext r = (E.tag_of (E.declared turn-enum) r ≡ 1) ⊎ (E.tag_of (E.declared turn-enum) r ≡ 2)
+NoNext r = (q : Place) → r ≡ Next q → ⊥
 
 no_next : (r : Turn) (q : Place) → NoNext r → r ≡ Next q → ⊥
-no_next (Next p) q (inl k) e = let z : ⊥ = omega arith in z
-no_next (Next p) q (inr k) e = let z : ⊥ = omega arith in z
-no_next Other q k e = let z : ◌≡◌ {A = ℕ} 0 1 = cc in omega arith
-no_next Long q k e = let z : ◌≡◌ {A = ℕ} 0 1 = cc in omega arith
+no_next r q k e = k q e
 
 module _ (text old out : List ℕ) (p : Place) (at line : ℕ) (g : Packs text old out p at line) (stop : ℕ) (word : List ℕ)
     (more : at < length text) (place : stop ≡ at + up_to 10 (drop at text)) (is : word ≡ trimmed (take (stop - at) (drop at text))) where

@@ -8,7 +8,7 @@ use Prim.Native.Nat.{ℕ, ◌+◌, ◌/◌, ◌%◌, ◌<◌, ◌≤◌}
 use native.Mathlib.Omega.{arith}
 use lib.ListN.{length, length-append}
 use borrow.Author.Tests.{lt-ltb, le-ltb, le-leb, ne_eqb}
-use Rattle.io.specs.Digits.{hex_digit_ascii}
+use Rattle.console.specs.Digits.{hex_digit_ascii}
 use Rattle.console.specs.Input.{hex_of}
 use Rattle.console.specs.Output.{hex_text}
 use Rattle.console.proofs.InputLaws.{side}

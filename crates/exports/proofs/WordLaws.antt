@@ -8,7 +8,7 @@ use lib.ListN.{length, take, drop, get_or, length-map}
 use Rattle.console.specs.Input.{hex_of, onto}
 use Rattle.console.proofs.InputLaws.{hex_done}
 use borrow.Author.Tests.{lt-ltb, le-ltb}
-use Rattle.io.specs.Counts.{IsPrefixLen}
+use Rattle.std.specs.Counts.{IsPrefixLen}
 use Rattle.console.specs.declared.input.Bytes.{Bytes}
 use Rattle.console.specs.declared.input.Bytes.TheVariants.{Count, Other}
 use Rattle.exports.specs.Words.{ahead, Decodes, DecodedPost}

@@ -1,7 +1,7 @@
 -- What the programs `pack` and `unpack` say, by what came in: a text for standard output, or a message for standard error.
 use Rattle.std.specs.Prelude.{◌≡◌, List, ◌∷◌, ◌++◌, cond, ℕ, ◌+◌, ◌-◌, ◌/◌, ◌%◌, ◌≤◌, eqb, length, take}
-use Rattle.io.specs.Counts.{IsPrefixLen}
-use Rattle.io.specs.Digits.{last_digits}
+use Rattle.std.specs.Counts.{IsPrefixLen}
+use Rattle.console.specs.Digits.{last_digits}
 use Rattle.console.specs.declared.input.Arrived.{Arrived}
 use Rattle.console.specs.declared.input.Stream.{Stream}
 use Rattle.console.specs.declared.input.Stream.TheVariants.{All, Failed, Full}

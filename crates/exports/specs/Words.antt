@@ -1,7 +1,7 @@
 -- What reading a word as a byte string answers.
 use Rattle.std.specs.Prelude.{◌≡◌, List, ◌++◌, ℕ, length, take, drop}
 use Rattle.std.proofs.Math.Option.{Option, none, some}
-use Rattle.io.specs.Counts.{IsPrefixLen}
+use Rattle.std.specs.Counts.{IsPrefixLen}
 use Rattle.console.specs.declared.input.Bytes.{Bytes}
 use Rattle.console.specs.declared.input.Bytes.TheVariants.{Count, Other}
 

@@ -10,6 +10,7 @@ use crate::packing::Packed;
 use crate::unpacking::Unpacked;
 use crate::{packing, unpacking};
 use console::input::{Arrived, Stream};
+use console::numbers::decimal;
 use console::output::Said;
 use wire::encoding::put_bytes;
 
@@ -19,7 +20,7 @@ fn put_numbered(text: &mut [u8], at: usize, piece: &[u8], n: usize) -> usize
     ensures { PutPost text.old at (piece.now ++ decimal_text n) result text.new }
 {
     let mut digits = [0u8; 20];
-    let k = io::decimal(n as u64, &mut digits);
+    let k = decimal(n as u64, &mut digits);
     let next = put_bytes(text, at, piece);
     put_bytes(text, next, &digits[..k])
 }

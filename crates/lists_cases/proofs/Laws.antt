@@ -5,7 +5,7 @@ use mathlib.Core.List.{List}
 use mathlib.Core.Bool.{Bool, true, false, true≢false}
 use native.Mathlib.Omega.{arith}
 use lib.ListN.{length, take, length-take}
-use Rattle.io.specs.Counts.{IsPrefixLen}
+use Rattle.std.specs.Counts.{IsPrefixLen}
 use Rattle.console.proofs.TextLaws.{front}
 use Rattle.wire.specs.Reading.{Read, got, refused}
 use Rattle.lists.specs.declared.decoding.Decoded.{Decoded}

@@ -1,5 +1,6 @@
 // The program `pack`: lines of states to a batch.
 #![tactic(auto)]
-fn main() {
-    exports::programs::pack();
+
+fn main(rt: HostRuntime) {
+    exports::programs::pack(rt.stdin(), rt.stdout(), rt.stderr());
 }

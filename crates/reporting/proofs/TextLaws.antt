@@ -11,7 +11,7 @@ use borrow.Rule.Slice.PartMut.{mid_of, put_mid}
 use Rattle.wire.specs.Varints.{PutPost}
 use Rattle.wire.proofs.EncodingLaws.{sets_more, Two, Four, four, two_length}
 use mathlib.Core.Logic.{⊎_elim}
-use Rattle.io.specs.Counts.{IsPrefixLen}
+use Rattle.std.specs.Counts.{IsPrefixLen}
 use Rattle.console.proofs.InputLaws.{side}
 use Rattle.console.specs.Numbers.{figures}
 use Rattle.console.specs.Output.{SignedPost, widened_of, hex_text, HexPost}

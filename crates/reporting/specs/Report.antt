@@ -1,7 +1,7 @@
 -- What `roll` says: the report of a batch that is rolled up in document 01's memory, and what is said of a stream that was read.
 use Rattle.std.specs.Prelude.{◌≡◌, List, false, ℕ, ◌≤◌, length, take}
 use Rattle.std.proofs.Math.Option.{Option, none, some}
-use Rattle.io.specs.Counts.{IsPrefixLen}
+use Rattle.std.specs.Counts.{IsPrefixLen}
 use Rattle.wire.specs.Varints.{PutPost}
 use Rattle.console.specs.declared.input.Stream.{Stream}
 use Rattle.console.specs.declared.input.Stream.TheVariants.{All, Failed, Full}

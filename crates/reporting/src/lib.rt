@@ -2,6 +2,7 @@
 // chain. Then p, s, value count, registers not zero; then the written state, or the writing refusal's number." Numbers are signed decimals, the
 // state is lowercase hexadecimal, and each line ends in a newline.
 #![tactic(auto)]
+
 ghost use Rattle.std.specs.Prelude.{◌<◌, length};
 ghost use Rattle.console.specs.Input.{ArrivedIn, StreamPost};
 ghost use Rattle.console.specs.Output.{SaidPost};
@@ -12,7 +13,7 @@ use batch::closing::Report;
 use console::input::{Arrived, Stream};
 use console::output::Said;
 use console::{input, output};
-use libc::STDIN_FILENO;
+use std::io::{Stderr, Stdin, Stdout};
 
 mod text;
 
@@ -83,33 +84,64 @@ fn respond(heard: Heard, answers: &[u8], out: &[u8], text: &mut [u8; 350000]) ->
 }
 
 // That what is handed over is what `roll` is to say of the stream that was read into this buffer is what this asks; what reaches a descriptor no contract can say.
-fn hand_over(arrived: Arrived, buf: &[u8], said: Said, text: &[u8; 350000])
+fn hand_over(
+    stdout: Stdout,
+    stderr: Stderr,
+    arrived: Arrived,
+    buf: &[u8],
+    said: Said,
+    text: &[u8; 350000],
+)
     requires { ArrivedIn buf.now arrived × Responds arrived.stream buf.now said text.now }
 {
-    output::say(b"roll", said, text);
+    output::say(stdout, stderr, b"roll", said, text);
 }
 
 // Makes what there is to say, and hands it over.
-fn tell(arrived: Arrived, buf: &[u8], heard: Heard, answers: &[u8; 65536], out: &[u8; 65536])
+fn tell(
+    stdout: Stdout,
+    stderr: Stderr,
+    arrived: Arrived,
+    buf: &[u8],
+    heard: Heard,
+    answers: &[u8; 65536],
+    out: &[u8; 65536],
+)
     requires { ArrivedIn buf.now arrived × HeardPost arrived.stream buf.now heard answers.now out.now }
 {
     let mut text = [0u8; 350000];
     let said = respond(heard, answers, out, &mut text);
-    hand_over(arrived, buf, said, &text);
+    hand_over(stdout, stderr, arrived, buf, said, &text);
 }
 
 // The program `roll`: reads a batch from standard input, rolls it up and says what there is to say. The buffer has one byte more than the longest batch.
 // `tell` is called in two places, since the compiler takes a function that is called in one into its caller: the text then takes the stack that `roll_up`
 // has given back.
-pub fn roll() {
+pub fn roll(mut stdin: Stdin, stdout: Stdout, stderr: Stderr) {
     let mut buf = [0u8; 65537];
     let mut answers = [0u8; 65536];
     let mut out = [0u8; 65536];
-    let arrived = input::read_all(STDIN_FILENO, &mut buf);
+    let arrived = input::read_all(&mut stdin, &mut buf);
     let stream = arrived.stream;
     let heard = hear(stream, &buf, &mut answers, &mut out);
     match heard {
-        Heard::Batch(r) => tell(arrived, &buf, Heard::Batch(r), &answers, &out),
-        Heard::Nothing => tell(arrived, &buf, Heard::Nothing, &answers, &out),
+        Heard::Batch(r) => tell(
+            stdout,
+            stderr,
+            arrived,
+            &buf,
+            Heard::Batch(r),
+            &answers,
+            &out,
+        ),
+        Heard::Nothing => tell(
+            stdout,
+            stderr,
+            arrived,
+            &buf,
+            Heard::Nothing,
+            &answers,
+            &out,
+        ),
     }
 }

@@ -1,6 +1,6 @@
 // The text that is printed of a batch, made in a lent buffer. Each function's contract says which bytes it puts: they are the definition's.
 ghost use Rattle.std.specs.Prelude.{◌≡◌, ◌+◌, ◌*◌, ◌≤◌, length, take};
-ghost use Rattle.io.specs.Counts.{IsPrefixLen};
+ghost use Rattle.std.specs.Counts.{IsPrefixLen};
 ghost use Rattle.wire.specs.Varints.{PutPost};
 ghost use Rattle.reporting.specs.Numbers.{number_text};
 ghost use Rattle.reporting.specs.Text.{answer_line, answer_lines, ending_text, not_zero_of, numbers_text, state_text, report_text};

@@ -1,5 +1,6 @@
 // The program `roll`: reads a batch from standard input, rolls it up, and prints what document 01, "The batch", says.
 #![tactic(auto)]
-fn main() {
-    reporting::roll();
+
+fn main(rt: HostRuntime) {
+    reporting::roll(rt.stdin(), rt.stdout(), rt.stderr());
 }

@@ -13,7 +13,7 @@ use lib.ListN.{length, take, drop, length-append, drop_of_length-le, take-append
 use lib.Seq.{length-take-le, take_at, drop-cons, drop-drop}
 use borrow.Rule.Slice.PartMut.{mid_of, post_of, put_mid, mid_len}
 use borrow.Author.Tests.{eq-eqb, ne_eqb}
-use Rattle.io.specs.Counts.{IsPrefixLen}
+use Rattle.std.specs.Counts.{IsPrefixLen}
 use Rattle.console.specs.declared.input.Bytes.{Bytes}
 use Rattle.console.specs.declared.input.Bytes.TheVariants.{Count, Other}
 use Rattle.console.specs.declared.input.Number.{Number}

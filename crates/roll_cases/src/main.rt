@@ -1,11 +1,12 @@
 // Replays the vectors of `roll`: each line of standard input is a batch, of which is printed what `roll` prints. What a line is, and how the
 // vectors were made, is said in compare/vectors/README.md.
 #![tactic(auto)]
+
 ghost use Rattle.std.specs.Prelude.{◌≡◌, ◌<◌, length};
 
 use console::input::Bytes;
 use console::{input, text};
-use libc::STDOUT_FILENO;
+use std::io::Stdout;
 
 mod expanding;
 
@@ -23,48 +24,48 @@ fn batch_bytes() -> [u8; 65537]
     [0; 65537]
 }
 
-fn remark(line: &[u8]) {
-    io::write_all(STDOUT_FILENO, line);
-    text::end_line();
+fn remark(stdout: Stdout, line: &[u8]) {
+    console::output::print(stdout, line);
+    text::end_line(stdout);
 }
 
-fn batch_line(line: &[u8]) {
+fn batch_line(stdout: Stdout, line: &[u8]) {
     let mut batch = batch_bytes();
     let r = expanding::expand(line, &mut batch);
     let Bytes::Count(n) = r else {
-        text::bad_case();
+        text::bad_case(stdout);
         return;
     };
     let mut text = [0u8; 350000];
     let len = reporting::roll_batch(&batch[..n], &mut text);
-    io::write_all(STDOUT_FILENO, &text[..len]);
+    console::output::print(stdout, &text[..len]);
 }
 
 // A line that starts with `#` is a remark. One with no bytes is a batch with none.
-fn case(line: &[u8]) {
+fn case(stdout: Stdout, line: &[u8]) {
     if line.len() == 0 {
-        batch_line(line);
+        batch_line(stdout, line);
         return;
     }
     if line[0] == b'#' {
-        remark(line);
+        remark(stdout, line);
         return;
     }
-    batch_line(line);
+    batch_line(stdout, line);
 }
 
-fn all_cases(text: &[u8]) {
+fn all_cases(stdout: Stdout, text: &[u8]) {
     let mut at: usize = 0;
     while at < text.len() {
         let end = input::find(text, at, b'\n');
         let next = end + 1;
-        case(&text[at..end]);
+        case(stdout, &text[at..end]);
         at = next;
     }
 }
 
-fn main() {
+fn main(rt: HostRuntime) {
     let mut buf = stream_bytes();
-    let n = input::read_cases(b"roll_cases", &mut buf);
-    all_cases(&buf[..n]);
+    let n = input::read_cases(rt.stdin(), rt.stderr(), b"roll_cases", &mut buf);
+    all_cases(rt.stdout(), &buf[..n]);
 }

@@ -1,5 +1,6 @@
 // The program `roll` again, which the gate runs on a batch of 65,536 bytes, the longest that there may be, with a state of p = 15.
 #![tactic(auto)]
-fn main() {
-    reporting::roll();
+
+fn main(rt: HostRuntime) {
+    reporting::roll(rt.stdin(), rt.stdout(), rt.stderr());
 }

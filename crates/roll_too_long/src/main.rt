@@ -1,5 +1,6 @@
 // The program `roll` on a standard input of one byte more than a batch may have, whose first record is good: 24, and not the roll-up of what fits a batch.
 #![tactic(auto)]
-fn main() {
-    reporting::roll();
+
+fn main(rt: HostRuntime) {
+    reporting::roll(rt.stdin(), rt.stdout(), rt.stderr());
 }

@@ -1,12 +1,13 @@
 // Replays the vectors of `rollup`: sequences of calls, a line of standard input for each step and a line on standard output for each. What a
 // line is, and how the vectors were made, is said in compare/vectors/README.md.
 #![tactic(auto)]
+
 ghost use Rattle.std.specs.Prelude.{◌≡◌, ◌≤◌, ◌<◌, length};
 
 use console::input::Bytes;
 use console::text;
-use libc::STDOUT_FILENO;
 use rollup::accumulator::{Accumulator, Form};
+use std::io::Stdout;
 
 mod answers;
 
@@ -53,9 +54,9 @@ fn mask(v: u32) -> u8 {
 }
 
 // The head of a line: its ten numbers, those that are signed as the unsigned ones of the same bits.
-fn head_line(line: &[u8]) -> Accumulator {
+fn head_line(stdout: Stdout, line: &[u8]) -> Accumulator {
     let form = form(text::precision(text::word(line, 1)));
-    text::print_ok();
+    text::print_ok(stdout);
     Accumulator {
         form,
         allowed: mask(text::precision(text::word(line, 2))),
@@ -73,24 +74,25 @@ fn head_line(line: &[u8]) -> Accumulator {
 // ---- memory
 
 // Bytes at the front of the registers.
-fn registers_line(line: &[u8], registers: &mut [u8]) {
+fn registers_line(stdout: Stdout, line: &[u8], registers: &mut [u8]) {
     match console::input::read_bytes(text::word(line, 1), registers) {
-        Bytes::Count(_) => text::print_ok(),
-        Bytes::Other => text::bad_case(),
+        Bytes::Count(_) => text::print_ok(stdout),
+        Bytes::Other => text::bad_case(stdout),
     }
 }
 
 // Values at the front of a list.
-fn list_line(line: &[u8], list: &mut [u32]) {
+fn list_line(stdout: Stdout, line: &[u8], list: &mut [u32]) {
     match text::read_list(text::word(line, 1), list) {
-        text::Listed::Count(_) => text::print_ok(),
-        text::Listed::Other => text::bad_case(),
+        text::Listed::Count(_) => text::print_ok(stdout),
+        text::Listed::Other => text::bad_case(stdout),
     }
 }
 
 // ---- calls
 
 fn add_case(
+    stdout: Stdout,
     head: Accumulator,
     registers: &mut [u8],
     sparse: &mut [u32],
@@ -99,12 +101,20 @@ fn add_case(
     bytes: &[u8],
 ) -> Accumulator {
     let r = rollup::adding::add(head, registers, sparse, pending, scratch, bytes);
-    answers::print_after(r.answer, r.head, &registers[..], &sparse[..], &pending[..]);
+    answers::print_after(
+        stdout,
+        r.answer,
+        r.head,
+        &registers[..],
+        &sparse[..],
+        &pending[..],
+    );
     r.head
 }
 
 // The same by the function that asks for a head that fits.
 fn fitting_case(
+    stdout: Stdout,
     head: Accumulator,
     registers: &mut [u8],
     sparse: &mut [u32],
@@ -113,15 +123,23 @@ fn fitting_case(
     bytes: &[u8],
 ) -> Accumulator {
     if !rollup::fitting::fits(head, &registers[..], &sparse[..], &pending[..]) {
-        text::bad_case();
+        text::bad_case(stdout);
         return head;
     }
     let r = rollup::adding::add_fitting(head, false, registers, sparse, pending, scratch, bytes);
-    answers::print_after(r.answer, r.head, &registers[..], &sparse[..], &pending[..]);
+    answers::print_after(
+        stdout,
+        r.answer,
+        r.head,
+        &registers[..],
+        &sparse[..],
+        &pending[..],
+    );
     r.head
 }
 
 fn state_case(
+    stdout: Stdout,
     kind: u8,
     head: Accumulator,
     registers: &mut [u8],
@@ -131,12 +149,13 @@ fn state_case(
     bytes: &[u8],
 ) -> Accumulator {
     if kind == b'f' {
-        return fitting_case(head, registers, sparse, pending, scratch, bytes);
+        return fitting_case(stdout, head, registers, sparse, pending, scratch, bytes);
     }
-    add_case(head, registers, sparse, pending, scratch, bytes)
+    add_case(stdout, head, registers, sparse, pending, scratch, bytes)
 }
 
 fn add_line(
+    stdout: Stdout,
     kind: u8,
     head: Accumulator,
     registers: &mut [u8],
@@ -145,13 +164,22 @@ fn add_line(
     scratch: &mut [u32],
     line: &[u8],
 ) -> Accumulator {
-    let mut bytes = io::buffer();
+    let mut bytes = console::memory::buffer();
     let r = console::input::read_bytes(text::word(line, 1), &mut bytes);
     let Bytes::Count(n) = r else {
-        text::bad_case();
+        text::bad_case(stdout);
         return head;
     };
-    state_case(kind, head, registers, sparse, pending, scratch, &bytes[..n])
+    state_case(
+        stdout,
+        kind,
+        head,
+        registers,
+        sparse,
+        pending,
+        scratch,
+        &bytes[..n],
+    )
 }
 
 // A size of at most `most`, which stands for a larger one too.
@@ -163,6 +191,7 @@ fn size(word: &[u8], most: usize) -> usize
 }
 
 fn write_case(
+    stdout: Stdout,
     head: Accumulator,
     registers: &[u8],
     sparse: &[u32],
@@ -171,13 +200,14 @@ fn write_case(
     out: &mut [u8],
 ) {
     let r = rollup::writing::write(head, registers, sparse, pending, scratch, out);
-    answers::print_written(r.answer, r.len, &out[..]);
-    answers::print_memory(head, registers, sparse, &pending[..]);
-    text::end_line();
+    answers::print_written(stdout, r.answer, r.len, &out[..]);
+    answers::print_memory(stdout, head, registers, sparse, &pending[..]);
+    text::end_line(stdout);
 }
 
 // The same by the function that asks for a head that fits.
 fn write_fitting_case(
+    stdout: Stdout,
     head: Accumulator,
     registers: &[u8],
     sparse: &[u32],
@@ -186,16 +216,17 @@ fn write_fitting_case(
     out: &mut [u8],
 ) {
     if !rollup::fitting::fits(head, registers, sparse, &pending[..]) {
-        text::bad_case();
+        text::bad_case(stdout);
         return;
     }
     let r = rollup::writing::write_fitting(head, registers, sparse, pending, scratch, out);
-    answers::print_written(r.answer, r.len, &out[..]);
-    answers::print_memory(head, registers, sparse, &pending[..]);
-    text::end_line();
+    answers::print_written(stdout, r.answer, r.len, &out[..]);
+    answers::print_memory(stdout, head, registers, sparse, &pending[..]);
+    text::end_line(stdout);
 }
 
 fn output_case(
+    stdout: Stdout,
     kind: u8,
     head: Accumulator,
     registers: &[u8],
@@ -205,13 +236,14 @@ fn output_case(
     out: &mut [u8],
 ) {
     if kind == b'u' {
-        write_fitting_case(head, registers, sparse, pending, scratch, out);
+        write_fitting_case(stdout, head, registers, sparse, pending, scratch, out);
     } else {
-        write_case(head, registers, sparse, pending, scratch, out);
+        write_case(stdout, head, registers, sparse, pending, scratch, out);
     }
 }
 
 fn write_line(
+    stdout: Stdout,
     kind: u8,
     head: Accumulator,
     registers: &[u8],
@@ -223,6 +255,7 @@ fn write_line(
     let n = size(text::word(line, 1), 20480);
     let mut out = output_bytes();
     output_case(
+        stdout,
         kind,
         head,
         registers,
@@ -235,13 +268,14 @@ fn write_line(
 
 // ---- lines
 
-fn remark(line: &[u8]) {
-    io::write_all(STDOUT_FILENO, line);
-    text::end_line();
+fn remark(stdout: Stdout, line: &[u8]) {
+    console::output::print(stdout, line);
+    text::end_line(stdout);
 }
 
 // A line at a roll-up: a letter, and behind a blank its operands. The answer is the head after it.
 fn case(
+    stdout: Stdout,
     head: Accumulator,
     registers: &mut [u8],
     sparse: &mut [u32],
@@ -250,13 +284,16 @@ fn case(
     line: &[u8],
 ) -> Accumulator {
     if line.len() == 0 {
-        text::bad_case();
+        text::bad_case(stdout);
         return head;
     }
     let kind = line[0];
     match kind {
-        b'a' | b'f' => return add_line(kind, head, registers, sparse, pending, scratch, line),
+        b'a' | b'f' => return add_line(
+            stdout, kind, head, registers, sparse, pending, scratch, line,
+        ),
         b'o' | b'u' => write_line(
+            stdout,
             kind,
             head,
             &registers[..],
@@ -265,19 +302,20 @@ fn case(
             scratch,
             line,
         ),
-        b'h' => return head_line(line),
-        b'r' => registers_line(line, registers),
-        b'k' => list_line(line, sparse),
-        b'w' => list_line(line, pending),
-        b'q' => answers::print_asked(head),
-        b'#' => remark(line),
-        _ => text::bad_case(),
+        b'h' => return head_line(stdout, line),
+        b'r' => registers_line(stdout, line, registers),
+        b'k' => list_line(stdout, line, sparse),
+        b'w' => list_line(stdout, line, pending),
+        b'q' => answers::print_asked(stdout, head),
+        b'#' => remark(stdout, line),
+        _ => text::bad_case(stdout),
     }
     head
 }
 
 // The lines up to the next `n`, at a roll-up that begins fresh with this memory. The answer is where they end.
 fn calls(
+    stdout: Stdout,
     text: &[u8],
     start: usize,
     registers: &mut [u8],
@@ -295,14 +333,22 @@ fn calls(
         }
         let end = console::input::find(text, at, b'\n');
         let next = end + 1;
-        head = case(head, registers, sparse, pending, scratch, &text[at..end]);
+        head = case(
+            stdout,
+            head,
+            registers,
+            sparse,
+            pending,
+            scratch,
+            &text[at..end],
+        );
         at = next;
     }
     at
 }
 
 // The same with memory of these sizes.
-fn lend(text: &[u8], start: usize, r: usize, k: usize, w: usize, s: usize) -> usize
+fn lend(stdout: Stdout, text: &[u8], start: usize, r: usize, k: usize, w: usize, s: usize) -> usize
     requires { (r ≤ 16384) × (k ≤ 8192) × (w ≤ 8192) × (s ≤ 8192) }
     ensures { start ≤ result }
 {
@@ -311,6 +357,7 @@ fn lend(text: &[u8], start: usize, r: usize, k: usize, w: usize, s: usize) -> us
     let mut pending = list_cells();
     let mut scratch = list_cells();
     calls(
+        stdout,
         text,
         start,
         &mut registers[..r],
@@ -321,39 +368,39 @@ fn lend(text: &[u8], start: usize, r: usize, k: usize, w: usize, s: usize) -> us
 }
 
 // A new roll-up, whose lines start at `start`.
-fn new_line(text: &[u8], start: usize, line: &[u8]) -> usize
+fn new_line(stdout: Stdout, text: &[u8], start: usize, line: &[u8]) -> usize
     ensures { start ≤ result }
 {
     let r = size(text::word(line, 1), 16384);
     let k = size(text::word(line, 2), 8192);
     let w = size(text::word(line, 3), 8192);
     let s = size(text::word(line, 4), 8192);
-    text::print_ok();
-    lend(text, start, r, k, w, s)
+    text::print_ok(stdout);
+    lend(stdout, text, start, r, k, w, s)
 }
 
 // A roll-up from its line `n` on; or a line before the first one, which is a remark. The answer is where the next starts.
-fn roll_up(text: &[u8], at: usize) -> usize
+fn roll_up(stdout: Stdout, text: &[u8], at: usize) -> usize
     requires { at < length text.now }
     ensures { at < result }
 {
     let end = console::input::find(text, at, b'\n');
     if text[at] == b'n' {
-        return new_line(text, end + 1, &text[at..end]);
+        return new_line(stdout, text, end + 1, &text[at..end]);
     }
-    remark(&text[at..end]);
+    remark(stdout, &text[at..end]);
     end + 1
 }
 
-fn all_cases(text: &[u8]) {
+fn all_cases(stdout: Stdout, text: &[u8]) {
     let mut at: usize = 0;
     while at < text.len() {
-        at = roll_up(text, at);
+        at = roll_up(stdout, text, at);
     }
 }
 
-fn main() {
+fn main(rt: HostRuntime) {
     let mut buf = stream_bytes();
-    let n = console::input::read_cases(b"rollup_cases", &mut buf);
-    all_cases(&buf[..n]);
+    let n = console::input::read_cases(rt.stdin(), rt.stderr(), b"rollup_cases", &mut buf);
+    all_cases(rt.stdout(), &buf[..n]);
 }

@@ -1,36 +1,38 @@
 // What `read_all` makes of a stream, by running it: a descriptor that cannot be read; a buffer that is full before the stream ends; the rest of the stream,
 // which takes more than one read; and its end.
 #![tactic(auto)]
-use console::input::{Arrived, Stream};
-use console::{input, text};
-use libc::{STDIN_FILENO, STDOUT_FILENO};
 
-fn print_stream(arrived: Arrived) {
+use console::input::{Arrived, Stream};
+use console::{input, memory, output, text};
+use std::fs::File;
+use std::io;
+use std::io::{Stdin, Stdout};
+
+fn print_stream(stdout: Stdout, arrived: Arrived) {
     let stream = arrived.stream;
     match stream {
         Stream::All(n) => {
-            io::write_all(STDOUT_FILENO, b"all ");
-            text::print_number(n as u64);
-            text::end_line();
+            output::print(stdout, b"all ");
+            text::print_number(stdout, n as u64);
+            text::end_line(stdout);
         }
-        Stream::Failed => {
-            io::write_all(STDOUT_FILENO, b"failed\n");
-        }
-        Stream::Full => {
-            io::write_all(STDOUT_FILENO, b"full\n");
-        }
+        Stream::Failed => output::print(stdout, b"failed\n"),
+        Stream::Full => output::print(stdout, b"full\n"),
     }
 }
 
-fn read_to_the_end(buf: &mut [u8]) {
-    print_stream(input::read_all(STDIN_FILENO, buf));
+fn read_to_the_end(mut stdin: Stdin, stdout: Stdout, buf: &mut [u8]) {
+    print_stream(stdout, input::read_all(&mut stdin, buf));
 }
 
-fn main() {
-    let mut short = io::buffer();
-    let mut long = io::large_buffer();
-    print_stream(input::read_all(-1, &mut short));
-    read_to_the_end(&mut short);
-    read_to_the_end(&mut long);
-    read_to_the_end(&mut long);
+// A folder can be opened, and each read of it fails.
+fn main(rt: HostRuntime) -> io::Result<()> {
+    let mut short = memory::buffer();
+    let mut long = memory::large_buffer();
+    let mut folder = File::open(&rt, "/")?;
+    print_stream(rt.stdout(), input::read_all(&mut folder, &mut short));
+    read_to_the_end(rt.stdin(), rt.stdout(), &mut short);
+    read_to_the_end(rt.stdin(), rt.stdout(), &mut long);
+    read_to_the_end(rt.stdin(), rt.stdout(), &mut long);
+    Ok(())
 }

@@ -1,5 +1,6 @@
 // The program `unpack`: a batch to lines of states.
 #![tactic(auto)]
-fn main() {
-    exports::programs::unpack();
+
+fn main(rt: HostRuntime) {
+    exports::programs::unpack(rt.stdin(), rt.stdout(), rt.stderr());
 }
