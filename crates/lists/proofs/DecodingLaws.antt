@@ -61,13 +61,16 @@ or_left : (a b : Bool) → (a || b) ≡ false → a ≡ false
 or_left true b e = e
 or_left false b e = refl
 
+or_yes : (a b : Bool) → a ≡ true → true ≡ (a || b)
+or_yes a b e = sym (ap (λ (t : Bool). t || b) e)
+
 -- What is refused where it is read, by the code's questions.
 module _ (p s last v : ℕ) where
   abbrev unfit : Bool
   unfit = not (marked_rank_fits p s v)
 
   pub refused_less : v < last → true ≡ refused_here p s last v
-  refused_less h = sym (ap (λ (t : Bool). t || (marked p s v && unfit)) (lt-ltb v last h))
+  refused_less h = or_yes (ltb v last) _ (lt-ltb v last h)
 
   by_rank : last ≤ v → (marked p s v && unfit) ≡ refused_here p s last v
   by_rank h = sym (ap (λ (t : Bool). t || (marked p s v && unfit)) (le-ltb v last h))
@@ -80,7 +83,7 @@ module _ (p s last v : ℕ) where
 
   -- What is not.
   not_less : refused_here p s last v ≡ false → last ≤ v
-  not_less e = ltb-false v last (or_left (ltb v last) (marked p s v && unfit) e)
+  not_less e = ltb-false v last (or_left (ltb v last) _ e)
 
   rank_fits : refused_here p s last v ≡ false → marked p s v ≡ true → marked_rank_fits p s v ≡ true
   rank_fits e m = not-false (marked_rank_fits p s v) (refused_rank (not_less e) m ∙ e)
