@@ -1,5 +1,5 @@
 -- Accepted lists and their merge are as document 01 says (specs/MergeSays): the marked values of one index are those of one slot.
-use Rattle.std.proofs.Common.{◌≡◌, ℕ, ◌*◌, ◌/◌, ◌≤◌, true, false, ◌⊎◌, List, [], ◌∷◌, sym, ap, ◌∙◌, subst, ⊎_elim, arith}
+use Rattle.std.proofs.Common.{◌≡◌, ℕ, ◌*◌, ◌/◌, ◌≤◌, true, false, List, [], ◌∷◌, sym, ap, ◌∙◌, subst, ⊎_elim, arith}
 use mathlib.Core.List.Memᴰ
 use mathlib.Core.List.{Memᴰ}
 use borrow.Author.Tests.{eqb-false}

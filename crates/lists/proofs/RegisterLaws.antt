@@ -6,7 +6,6 @@ use lib.Seq.{set_at, set-append_left}
 use lib.Arith.{lt_of_le-ne}
 use lib.Pow.{shl-shr, shr_le, split, high, low}
 use lib.Count.{count_leading_zeros, leading_length, leading_unique}
-use Rattle.wire.proofs.BoolLaws.{both}
 use Rattle.wire.proofs.VarintLaws.{side}
 use Rattle.lists.proofs.ValueLaws.{wider, lowered_zero, lowered_bits, lowered_bits_le, lowered_register_lem, lowered_register_le, register_zero}
 use Rattle.lists.proofs.RankLaws.{zeros_at, max_assoc, larger_length, larger_at, largest_upper, lowered_length, lowered_at_lem, lowered_upper, lowered_least, lowered_agree, raised_with, lower_index, lower_rank}

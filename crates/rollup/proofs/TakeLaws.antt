@@ -1,5 +1,5 @@
 -- Taking in: an accepted state can be taken in, and what each form requires of what comes in.
-use Rattle.std.proofs.Common.{◌≡◌, ℕ, ◌-◌, ◌<◌, ◌≤◌, true, List, [], length, sym, refl, subst, ⊎_elim, le_of_eq, arith}
+use Rattle.std.proofs.Common.{◌≡◌, ℕ, ◌<◌, ◌≤◌, true, List, [], length, sym, refl, subst, ⊎_elim, le_of_eq, arith}
 use Rattle.wire.specs.Reading.{got}
 use Rattle.wire.specs.State.{State}
 use Rattle.wire.proofs.VarintLaws.{side}

@@ -1,6 +1,6 @@
 -- What the stages of taking in and of adding require and promise, file by file of the code, besides `Shows` and `AddPost`. Nothing here says what the roll-up does: that is in
 -- specs/Taking and specs/Adding.
-use Rattle.std.specs.Prelude.{◌≡◌, ℕ, ◌+◌, ◌-◌, ◌*◌, ◌^◌, ◌<◌, ◌≤◌, min, Bool, true, false, List, [], length, take}
+use Rattle.std.specs.Prelude.{◌≡◌, ℕ, ◌+◌, ◌*◌, ◌^◌, ◌<◌, ◌≤◌, min, Bool, true, false, List, [], length, take}
 use Rattle.wire.specs.State.{State}
 use Rattle.lists.specs.Values.{Pair, SparseFits, NewPost, largest_rank}
 use Rattle.lists.specs.Sorting.{ascends}

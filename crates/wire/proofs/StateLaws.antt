@@ -30,7 +30,7 @@ use Rattle.wire.specs.declared.state.Step.TheVariants.{Next, Refused as StepRefu
 use Rattle.wire.specs.declared.state.Parsed.TheVariants.{Read as StateRead, Refused as StateRefused}
 use Rattle.wire.specs.Reading.{Read, got, refused, and_then}
 use Rattle.wire.specs.Varints.{VarintPost}
-use Rattle.wire.specs.Fields.{tag, LEN, tag_of, field_of, TagPost, DelimitedPost, SkipPost}
+use Rattle.wire.specs.Fields.{tag, LEN, field_of, TagPost, DelimitedPost, SkipPost}
 use Rattle.wire.specs.State.{HllState, State, empty_state, when_present, part_of, hll_of, state_of, bytes_or_none, is_hll_number, with_hll_number, is_hll_bytes, with_hll_bytes, hll_number_of, hll_bytes_of, other_of, hll_field, read_hll, is_number, with_number, number_of, nested_of, outer_field, read_state, HllInside, Within, HllStepForward, StepForward, HllStepPost, HllPost, StepPost, ParsePost, hll_step_refusal, hll_refusal, step_refusal}
 use Rattle.wire.proofs.ReadingLaws.{then_same, Going, going_start, going_next, going_refused, going_end}
 use denote.Enum.Declared as E

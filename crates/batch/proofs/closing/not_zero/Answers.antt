@@ -5,7 +5,6 @@ use lib.ListN.{length}
 use Rattle.rollup.specs.Accumulator.{mem}
 use Rattle.rollup.proofs.FitLaws.{fit_sparse, fit_dense}
 use Rattle.batch.proofs.ClosingLaws.{list_pre, count_none, count_dense, count_short, count_list}
-use borrow.Author.Rules.{rules}
 use Rattle.batch.proofs.closing.not_zero.Goals as goal
 
 pub register_bytes-requires : goal.register_bytes-requires
@@ -18,7 +17,9 @@ pub list_not_zero-requires : goal.list_not_zero-requires
 list_not_zero-requires c = list_pre c.args.a (mem c.args.registers.now c.args.sparse.now c.args.pending.now) c.args.spare.now c.requires c.in-Sparse.is (subst (λ (k : ℕ). k ≤ length c.args.spare.now) c.register_bytes.ensures.0 c.if-spare-register_bytes.false)
 
 pub count_not_zero-requires : goal.count_not_zero-requires
-count_not_zero-requires c = let f = fit_dense c.args.a (mem c.args.registers.now c.args.sparse.now c.args.pending.now) c.requires c.in-Dense.is in record { high = f.high; room = f.room }
+count_not_zero-requires c =
+    let f = fit_dense c.args.a (mem c.args.registers.now c.args.sparse.now c.args.pending.now) c.requires c.in-Dense.is in
+    record { high = f.high; room = f.room }
 
 pub returns-in-Unstarted : goal.returns-in-Unstarted
 returns-in-Unstarted c = count_none c.args.a (mem c.args.registers.now c.args.sparse.now c.args.pending.now) (length c.args.spare.now) c.in-Unstarted.is

@@ -4,7 +4,6 @@ use mathlib.Core.Path.{subst}
 use Rattle.rollup.specs.Accumulator.{mem}
 use Rattle.rollup.specs.Writing.{WritePost}
 use Rattle.rollup.proofs.ViewLaws.{run_fits}
-use borrow.Author.Rules.{rules}
 use Rattle.batch.proofs.closing.roll.Goals as goal
 
 pub not_zero-not_zero-requires : goal.not_zero-not_zero-requires

@@ -5,7 +5,6 @@ use Prim.Native.Nat.{ℕ}
 use native.Mathlib.Omega.{arith}
 use lib.ListN.{length}
 use lib.Seq.{length-sets}
-use borrow.Author.Rules.{rules}
 use Rattle.wire.specs.Varints.{PutPost}
 use Rattle.batch.specs.Packing.{word_bytes, record_bytes}
 use Rattle.batch.proofs.PackingLaws.{record_length}

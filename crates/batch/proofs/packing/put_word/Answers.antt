@@ -1,7 +1,6 @@
 -- Four bytes, low first: the stores are those of `word_bytes`.
 use native.Mathlib.Omega.{arith}
 use lib.ListN.{length-set}
-use borrow.Author.Rules.{rules}
 use Rattle.batch.proofs.PackingLaws.{word_put}
 use Rattle.batch.proofs.packing.put_word.Goals as goal
 

@@ -1,17 +1,10 @@
 -- The loop over the records: each turn adds one call to the run.
-use Prim.Native.Nat.{ℕ, ◌+◌, ◌-◌}
-use mathlib.Core.Path.{◌≡◌, refl, ap, ◌∙◌, subst}
-use native.Mathlib.Omega.{arith}
-use lib.ListN.{length, take, drop, length-set}
-use Rattle.wire.proofs.BoolLaws.{never, said_yes, said_no}
-use Rattle.rollup.specs.Accumulator.{Mem, mem}
-use Rattle.rollup.specs.Adding.{AddPost}
+use Prim.Native.Nat.{◌-◌}
+use mathlib.Core.Path.{◌≡◌}
+use lib.ListN.{length, take}
+use Rattle.rollup.specs.Accumulator.{mem}
 use Rattle.rollup.specs.Stages.{KnownDistinct}
-use Rattle.batch.specs.Chain.{length_at}
-use Rattle.rollup.proofs.ViewLaws.{run_fits}
-use Rattle.lists.proofs.RegisterLaws.{not_yet}
-use Rattle.batch.proofs.ChainLaws.{Going, batch_size, record_inside, going_start, going_turn, stop_whole, stop_refused, stop_full}
-use borrow.Author.Rules.{rules}
+use Rattle.batch.proofs.ChainLaws.{Going}
 use Rattle.batch.proofs.records.add_records.Given as goal
 
 abbrev pub invariant-loop-at : goal.invariant-loop-at

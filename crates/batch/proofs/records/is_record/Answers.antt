@@ -2,7 +2,6 @@
 use mathlib.Core.Path.{sym}
 use native.Mathlib.Omega.{arith}
 use Rattle.batch.proofs.ChainLaws.{Inside, no_record, record_tested}
-use borrow.Author.Rules.{rules}
 use Rattle.batch.proofs.records.is_record.Goals as goal
 
 pub returns-then-at-lt4 : goal.returns-then-at-lt4

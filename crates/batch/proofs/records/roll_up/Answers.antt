@@ -4,7 +4,6 @@ use lib.ListN.{length}
 use Rattle.wire.proofs.BoolLaws.{said_yes, said_no}
 use Rattle.rollup.specs.Accumulator.{mem}
 use Rattle.batch.proofs.ChainLaws.{no_batch}
-use borrow.Author.Rules.{rules}
 use Rattle.std.proofs.lemmas.Bool.{not_from_false, not_from_true}
 use Rattle.batch.proofs.records.roll_up.Goals as goal
 

@@ -1,6 +1,5 @@
 -- Four bytes, low first.
 use Rattle.batch.proofs.ChainLaws.{word_read}
-use borrow.Author.Rules.{rules}
 use Rattle.batch.proofs.records.word_at.Goals as goal
 
 pub returns : goal.returns

@@ -1,7 +1,6 @@
 -- The state, as far as it lies inside.
 use native.Mathlib.Omega.{arith}
 use Rattle.batch.proofs.UnpackingLaws.{state_none, state_cut, state_whole}
-use borrow.Author.Rules.{rules}
 use Rattle.batch.proofs.unpacking.state_at.Goals as goal
 
 pub returns-then-batch-lt8 : goal.returns-then-batch-lt8

@@ -1,7 +1,6 @@
 -- Question 24, and then the loop.
 use Rattle.wire.proofs.BoolLaws.{said_yes, said_no}
 use Rattle.batch.proofs.UnpackingLaws.{walked_none}
-use borrow.Author.Rules.{rules}
 use Rattle.std.proofs.lemmas.Bool.{not_from_false, not_from_true}
 use Rattle.batch.proofs.unpacking.walk.Goals as goal
 

@@ -1,11 +1,9 @@
-use mathlib.Core.Path.{◌≡◌, refl, ◌∙◌}
-use Prim.Native.Nat.{◌-◌, ◌^◌, ◌<◌}
+use mathlib.Core.Path.{refl, ◌∙◌}
 use native.Mathlib.Omega.{arith}
-use lib.ListN.{length, length-set}
+use lib.ListN.{length-set}
 use Rattle.wire.proofs.BoolLaws.{said_yes, said_no}
 use Rattle.batch.proofs.ChainLaws.{record_inside, batch_size}
-use Rattle.batch.proofs.UnpackingLaws.{Walking, walking_start, walking_turn, walked_whole, walked_refused, room_left}
-use borrow.Author.Rules.{rules}
+use Rattle.batch.proofs.UnpackingLaws.{walking_start, walking_turn, walked_whole, walked_refused, room_left}
 use Rattle.std.proofs.lemmas.Bool.{not_from_false, not_from_true}
 use Rattle.batch.proofs.unpacking.walk_records.Goals as goal
 

@@ -1,12 +1,8 @@
 -- The loop's invariant: the indices so far, and what is left of the chain, are the chain's (`Walking`).
-use mathlib.Core.Path.{◌≡◌, refl, ◌∙◌}
+use mathlib.Core.Path.{◌≡◌}
 use Prim.Native.Nat.{◌-◌, ◌^◌, ◌<◌}
-use native.Mathlib.Omega.{arith}
-use lib.ListN.{length, length-set}
-use Rattle.wire.proofs.BoolLaws.{said_yes, said_no}
-use Rattle.batch.proofs.ChainLaws.{record_inside, batch_size}
-use Rattle.batch.proofs.UnpackingLaws.{Walking, walking_start, walking_turn, walked_whole, walked_refused, room_left}
-use borrow.Author.Rules.{rules}
+use lib.ListN.{length}
+use Rattle.batch.proofs.UnpackingLaws.{Walking}
 use Rattle.batch.proofs.unpacking.walk_records.Given as goal
 
 abbrev pub invariant-loop-at : goal.invariant-loop-at

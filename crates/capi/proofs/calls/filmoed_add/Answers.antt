@@ -2,7 +2,6 @@
 use lib.ListN.{length}
 use Rattle.rollup.specs.Accumulator.{mem}
 use Rattle.capi.proofs.CallLaws.{found, missing, ten_cells, add_missing, add_found}
-use borrow.Author.Rules.{rules}
 use Rattle.capi.proofs.calls.filmoed_add.Goals as goal
 
 pub returns-in_default : goal.returns-in_default

@@ -1,6 +1,5 @@
 -- A row with ten cells, and one without.
 use Rattle.capi.proofs.CallLaws.{fresh_short, fresh_put}
-use borrow.Author.Rules.{rules}
 use Rattle.capi.proofs.calls.filmoed_fresh.Goals as goal
 
 pub returns-then-head-lt10 : goal.returns-then-head-lt10

@@ -2,7 +2,6 @@
 use lib.ListN.{length}
 use Rattle.rollup.specs.Accumulator.{mem}
 use Rattle.capi.proofs.CallLaws.{found, missing, write_missing, write_found}
-use borrow.Author.Rules.{rules}
 use Rattle.capi.proofs.calls.filmoed_write.Goals as goal
 
 pub returns-in_default : goal.returns-in_default

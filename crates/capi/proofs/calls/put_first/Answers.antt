@@ -1,6 +1,5 @@
 -- There is a first cell, or nothing is to be set.
 use Rattle.capi.proofs.CallLaws.{set_none}
-use borrow.Author.Rules.{rules}
 use Rattle.capi.proofs.calls.put_first.Goals as goal
 
 pub returns-else-cells-gt0 : goal.returns-else-cells-gt0

@@ -1,10 +1,9 @@
-use Prim.Native.Nat.{◌+◌, ◌-◌}
+use Prim.Native.Nat.{◌+◌}
 use mathlib.Core.Bool.{Bool, ◌&&◌}
-use mathlib.Core.Path.{◌≡◌, refl, sym, ap, ◌∙◌}
-use lib.ListN.{length, drop, get_or}
+use mathlib.Core.Path.{refl, sym, ap, ◌∙◌}
+use lib.ListN.{drop, get_or}
 use Rattle.capi.specs.Folds.{ends_fit}
 use Rattle.capi.proofs.FoldLaws.{ends_turn, ends_end}
-use borrow.Author.Rules.{rules}
 use Rattle.capi.proofs.folding.ends_fit.Goals as goal
 
 pub loop-i-init : goal.loop-i-init

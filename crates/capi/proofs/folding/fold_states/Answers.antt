@@ -1,32 +1,38 @@
-use Prim.Native.Nat.{ℕ, ◌-◌, ◌≤◌}
-use mathlib.Core.Path.{◌≡◌, refl, ◌∙◌, subst}
+use Prim.Native.Nat.{ℕ, ◌≤◌}
+use mathlib.Core.Path.{refl, ◌∙◌, subst}
 use native.Mathlib.Omega.{arith}
-use lib.ListN.{length, get_or, take, length-set}
+use lib.ListN.{length, get_or, length-set}
 use Rattle.wire.proofs.BoolLaws.{never}
 use Rattle.rollup.specs.declared.adding.Added.{Added}
 use Rattle.rollup.specs.Accumulator.{Mem, mem}
 use Rattle.rollup.specs.Adding.{AddPost}
-use Rattle.rollup.specs.Stages.{KnownDistinct}
 use Rattle.capi.specs.Folds.{between}
-use Rattle.capi.proofs.FoldLaws.{Folding, fold_start, state_from, state_to, fold_turn, fold_end}
-use borrow.Author.Rules.{rules}
+use Rattle.capi.proofs.FoldLaws.{fold_start, state_from, state_to, fold_turn, fold_end}
 use Rattle.capi.proofs.folding.fold_states.Goals as goal
 
 pub loop-i-init : goal.loop-i-init
-loop-i-init c = let m : Mem = mem c.args.registers.now c.args.sparse.now c.args.pending.now in (fold_start c.args.a m (length c.args.scratch.now) c.args.bytes.now c.args.ends.now c.args.answers.now c.requires, refl, refl, refl, refl, refl, never)
+loop-i-init c =
+    let m : Mem = mem c.args.registers.now c.args.sparse.now c.args.pending.now in
+    (fold_start c.args.a m (length c.args.scratch.now) c.args.bytes.now c.args.ends.now c.args.answers.now c.requires, refl, refl, refl, refl, refl, never)
 
 pub slice_bounds-add_fitting-count : goal.slice_bounds-add_fitting-count
-slice_bounds-add_fitting-count c = let m : Mem = mem c.args.registers.now c.args.sparse.now c.args.pending.now in let from : c.loop-i.start ≤ get_or c.args.ends.now c.loop-i.i 0 = let l = c.loop-i in
+slice_bounds-add_fitting-count c =
+    let m : Mem = mem c.args.registers.now c.args.sparse.now c.args.pending.now in
+    let from : c.loop-i.start ≤ get_or c.args.ends.now c.loop-i.i 0 = let l = c.loop-i in
     state_from c.args.a m (length c.args.scratch.now) c.args.bytes.now c.args.ends.now c.args.answers.now l.start l.i l.head (mem l.registers l.sparse l.pending) l.answers l.invariant.0 (get_or c.args.ends.now l.i 0) c.loop-i-test.true refl in let to : get_or c.args.ends.now c.loop-i.i 0 ≤ length c.args.bytes.now = let l = c.loop-i in
     state_to c.args.a m (length c.args.scratch.now) c.args.bytes.now c.args.ends.now c.args.answers.now l.start l.i l.head (mem l.registers l.sparse l.pending) l.answers l.invariant.0 (get_or c.args.ends.now l.i 0) c.loop-i-test.true refl in omega (arith, from, to)
 
 pub slice_bounds-add_fitting-start : goal.slice_bounds-add_fitting-start
-slice_bounds-add_fitting-start c = let m : Mem = mem c.args.registers.now c.args.sparse.now c.args.pending.now in let from : c.loop-i.start ≤ get_or c.args.ends.now c.loop-i.i 0 = let l = c.loop-i in
+slice_bounds-add_fitting-start c =
+    let m : Mem = mem c.args.registers.now c.args.sparse.now c.args.pending.now in
+    let from : c.loop-i.start ≤ get_or c.args.ends.now c.loop-i.i 0 = let l = c.loop-i in
     state_from c.args.a m (length c.args.scratch.now) c.args.bytes.now c.args.ends.now c.args.answers.now l.start l.i l.head (mem l.registers l.sparse l.pending) l.answers l.invariant.0 (get_or c.args.ends.now l.i 0) c.loop-i-test.true refl in let to : get_or c.args.ends.now c.loop-i.i 0 ≤ length c.args.bytes.now = let l = c.loop-i in
     state_to c.args.a m (length c.args.scratch.now) c.args.bytes.now c.args.ends.now c.args.answers.now l.start l.i l.head (mem l.registers l.sparse l.pending) l.answers l.invariant.0 (get_or c.args.ends.now l.i 0) c.loop-i-test.true refl in omega (arith, from, to)
 
 pub slice_bounds-add_fitting-end : goal.slice_bounds-add_fitting-end
-slice_bounds-add_fitting-end c = let m : Mem = mem c.args.registers.now c.args.sparse.now c.args.pending.now in let from : c.loop-i.start ≤ get_or c.args.ends.now c.loop-i.i 0 = let l = c.loop-i in
+slice_bounds-add_fitting-end c =
+    let m : Mem = mem c.args.registers.now c.args.sparse.now c.args.pending.now in
+    let from : c.loop-i.start ≤ get_or c.args.ends.now c.loop-i.i 0 = let l = c.loop-i in
     state_from c.args.a m (length c.args.scratch.now) c.args.bytes.now c.args.ends.now c.args.answers.now l.start l.i l.head (mem l.registers l.sparse l.pending) l.answers l.invariant.0 (get_or c.args.ends.now l.i 0) c.loop-i-test.true refl in let to : get_or c.args.ends.now c.loop-i.i 0 ≤ length c.args.bytes.now = let l = c.loop-i in
     state_to c.args.a m (length c.args.scratch.now) c.args.bytes.now c.args.ends.now c.args.answers.now l.start l.i l.head (mem l.registers l.sparse l.pending) l.answers l.invariant.0 (get_or c.args.ends.now l.i 0) c.loop-i-test.true refl in omega (arith, from, to)
 

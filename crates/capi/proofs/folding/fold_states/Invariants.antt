@@ -1,16 +1,10 @@
 -- The loop over the states: each turn adds one call to those before it.
-use Prim.Native.Nat.{ℕ, ◌-◌, ◌≤◌}
-use mathlib.Core.Path.{◌≡◌, refl, ◌∙◌, subst}
-use native.Mathlib.Omega.{arith}
-use lib.ListN.{length, get_or, take, length-set}
-use Rattle.wire.proofs.BoolLaws.{never}
-use Rattle.rollup.specs.declared.adding.Added.{Added}
-use Rattle.rollup.specs.Accumulator.{Mem, mem}
-use Rattle.rollup.specs.Adding.{AddPost}
+use Prim.Native.Nat.{◌-◌}
+use mathlib.Core.Path.{◌≡◌}
+use lib.ListN.{length, take}
+use Rattle.rollup.specs.Accumulator.{mem}
 use Rattle.rollup.specs.Stages.{KnownDistinct}
-use Rattle.capi.specs.Folds.{between}
-use Rattle.capi.proofs.FoldLaws.{Folding, fold_start, state_from, state_to, fold_turn, fold_end}
-use borrow.Author.Rules.{rules}
+use Rattle.capi.proofs.FoldLaws.{Folding}
 use Rattle.capi.proofs.folding.fold_states.Given as goal
 
 abbrev pub invariant-loop-i : goal.invariant-loop-i

@@ -2,7 +2,6 @@
 use mathlib.Core.Bool.{Bool, ◌&&◌}
 use mathlib.Core.Path.{sym, ap}
 use lib.Dec.{leb}
-use borrow.Author.Rules.{rules}
 use Rattle.capi.proofs.folding.goes_on.Goals as goal
 
 pub returns-then-before : goal.returns-then-before

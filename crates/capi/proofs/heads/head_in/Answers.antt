@@ -1,7 +1,6 @@
 -- Ten numbers are there, and each fits its field.
 use native.Mathlib.Omega.{arith}
 use Rattle.capi.proofs.HeadLaws.{head_parts, head_read}
-use borrow.Author.Rules.{rules}
 use Rattle.capi.proofs.heads.head_in.Goals as goal
 
 pub bounds-row-0 : goal.bounds-row-0

@@ -2,7 +2,6 @@
 use mathlib.Core.Path.{refl}
 use native.Mathlib.Omega.{arith}
 use Rattle.capi.proofs.HeadLaws.{Parts, no_head, head_tested}
-use borrow.Author.Rules.{rules}
 use Rattle.capi.proofs.heads.is_head.Goals as goal
 
 pub returns-then-row-lt10 : goal.returns-then-row-lt10

@@ -3,7 +3,6 @@ use mathlib.Core.Path.{ap, ◌∙◌}
 use Rattle.wire.proofs.BoolLaws.{said_yes, said_no}
 use Rattle.capi.specs.declared.heads.Head.TheVariants.{Is}
 use Rattle.capi.proofs.HeadLaws.{read_known, read_unknown}
-use borrow.Author.Rules.{rules}
 use Rattle.std.proofs.lemmas.Bool.{not_from_false, not_from_true}
 use Rattle.capi.proofs.heads.read_head.Goals as goal
 

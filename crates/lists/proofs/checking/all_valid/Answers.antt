@@ -1,6 +1,4 @@
-use Rattle.std.proofs.Common.{◌≡◌, ◌-◌, ◌&&◌, length, drop, sym, refl, ◌∙◌, rules}
-use Rattle.lists.specs.Values.{SparseFits}
-use Rattle.lists.specs.Lists.{all_valid}
+use Rattle.std.proofs.Common.{sym, refl, ◌∙◌}
 use Rattle.lists.proofs.CheckingLaws.{valid_turn, valid_end}
 use Rattle.lists.proofs.checking.all_valid.Goals as goal
 

@@ -1,8 +1,7 @@
 -- What was found so far and whether the rest is valid make the whole.
-use Rattle.std.proofs.Common.{◌≡◌, ◌-◌, ◌&&◌, length, drop, sym, refl, ◌∙◌, rules}
+use Rattle.std.proofs.Common.{◌≡◌, ◌-◌, ◌&&◌, length, drop}
 use Rattle.lists.specs.Values.{SparseFits}
 use Rattle.lists.specs.Lists.{all_valid}
-use Rattle.lists.proofs.CheckingLaws.{valid_turn, valid_end}
 use Rattle.lists.proofs.checking.all_valid.Given as goal
 
 abbrev pub invariant-loop-i : goal.invariant-loop-i

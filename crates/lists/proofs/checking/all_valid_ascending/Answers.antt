@@ -1,5 +1,5 @@
 -- The values are valid where those below the mark and those from it on are.
-use Rattle.std.proofs.Common.{ℕ, take, sym, ap, ◌∙◌, subst, length-take-le, rules}
+use Rattle.std.proofs.Common.{ℕ, take, sym, ap, ◌∙◌, subst, length-take-le}
 use Rattle.wire.proofs.BoolLaws.{said_yes, said_no}
 use Rattle.lists.specs.Order.{Below}
 use Rattle.lists.specs.Lists.{all_valid}
@@ -16,7 +16,9 @@ pub plain_valid-requires : goal.plain_valid-requires
 plain_valid-requires c = (c.requires.0, ascends_take c.split_point-m.result c.args.l.now c.requires.1, subst (λ (n : ℕ). Below n (take c.split_point-m.result c.args.l.now)) c.requires.0.flag c.split_point-m.ensures.low)
 
 pub returns-then-not-plain_valid : goal.returns-then-not-plain_valid
-returns-then-not-plain_valid c = let a = c.args in parts_no a.enc.normal_precision a.enc.sparse_precision c.split_point-m.result a.l.now (said_no c.plain_valid.ensures (not_from_false _ c.if-not-plain_valid.true))
+returns-then-not-plain_valid c =
+    let a = c.args in
+    parts_no a.enc.normal_precision a.enc.sparse_precision c.split_point-m.result a.l.now (said_no c.plain_valid.ensures (not_from_false _ c.if-not-plain_valid.true))
 
 pub returns : goal.returns
 returns c = let a = c.args in

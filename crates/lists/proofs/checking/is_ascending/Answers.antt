@@ -1,5 +1,4 @@
-use Rattle.std.proofs.Common.{◌≡◌, ◌-◌, ◌≤◌, ◌&&◌, length, get_or, drop, sym, ◌∙◌, arith, rules}
-use Rattle.lists.specs.Sorting.{not_before, ascends}
+use Rattle.std.proofs.Common.{sym, ◌∙◌, arith}
 use Rattle.lists.proofs.CheckingLaws.{rising_start, rising_turn, rising_end}
 use Rattle.lists.proofs.checking.is_ascending.Goals as goal
 

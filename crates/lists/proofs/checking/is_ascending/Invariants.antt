@@ -1,7 +1,6 @@
 -- What was found so far and whether the rest ascends from the value before it make the whole.
-use Rattle.std.proofs.Common.{◌≡◌, ◌-◌, ◌≤◌, ◌&&◌, length, get_or, drop, sym, ◌∙◌, arith, rules}
+use Rattle.std.proofs.Common.{◌≡◌, ◌-◌, ◌≤◌, ◌&&◌, length, get_or, drop}
 use Rattle.lists.specs.Sorting.{not_before, ascends}
-use Rattle.lists.proofs.CheckingLaws.{rising_start, rising_turn, rising_end}
 use Rattle.lists.proofs.checking.is_ascending.Given as goal
 
 abbrev pub invariant-loop-i : goal.invariant-loop-i

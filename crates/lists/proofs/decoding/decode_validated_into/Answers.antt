@@ -1,4 +1,4 @@
-use Rattle.std.proofs.Common.{◌≡◌, ◌-◌, ◌≤◌, true, false, [], length, take, drop, sym, refl, subst, arith, length-set, rules}
+use Rattle.std.proofs.Common.{true, false, [], sym, refl, subst, arith, length-set, rules}
 use Rattle.wire.proofs.BoolLaws.{said_yes, said_no}
 use Rattle.lists.proofs.CellLaws.{past_set}
 use Rattle.lists.proofs.DecodingLaws.{Going, going_start, going_next, going_stopped, going_end, going_stored, stored_stopped, stored_end}

@@ -1,9 +1,7 @@
 -- The values stored so far and those of the rest make up the list (`Going`), and the two values that the loop keeps decide for all of them. The
 -- cells past those values are as they were.
-use Rattle.std.proofs.Common.{◌≡◌, ◌-◌, ◌≤◌, true, false, [], length, take, drop, sym, refl, subst, arith, length-set, rules}
-use Rattle.wire.proofs.BoolLaws.{said_yes, said_no}
-use Rattle.lists.proofs.CellLaws.{past_set}
-use Rattle.lists.proofs.DecodingLaws.{Going, going_start, going_next, going_stopped, going_end, going_stored, stored_stopped, stored_end}
+use Rattle.std.proofs.Common.{◌≡◌, ◌-◌, ◌≤◌, length, take, drop}
+use Rattle.lists.proofs.DecodingLaws.{Going}
 use Rattle.lists.proofs.decoding.decode_validated_into.Given as goal
 
 abbrev pub invariant-loop-at : goal.invariant-loop-at

@@ -1,5 +1,5 @@
 -- The definition's two questions, one after the other.
-use Rattle.std.proofs.Common.{Bool, ◌&&◌, ltb, sym, ap, ◌∙◌, rules}
+use Rattle.std.proofs.Common.{Bool, ◌&&◌, ltb, sym, ap, ◌∙◌}
 use Rattle.wire.proofs.BoolLaws.{said_yes, said_no}
 use Rattle.lists.specs.Values.{marked_end}
 use Rattle.std.proofs.lemmas.Bool.{not_from_false, not_from_true}

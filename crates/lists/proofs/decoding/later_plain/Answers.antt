@@ -1,5 +1,5 @@
 -- The mark bit decides, as `is_rho_encoded` answers it.
-use Rattle.std.proofs.Common.{Bool, cond, sym, ap, ◌∙◌, rules}
+use Rattle.std.proofs.Common.{Bool, cond, sym, ap, ◌∙◌}
 use Rattle.lists.proofs.decoding.later_plain.Goals as goal
 
 pub returns-then-is_rho_encoded : goal.returns-then-is_rho_encoded

@@ -1,6 +1,6 @@
 -- A gap and the value before give the next value, unless the definition refuses it.
 use borrow.Enum.Refused.{opened}
-use Rattle.std.proofs.Common.{sym, ◌∙◌, rules}
+use Rattle.std.proofs.Common.{sym, ◌∙◌}
 use Rattle.lists.proofs.DecodingLaws.{step_no_gap, step_refused, step_next}
 use Rattle.lists.proofs.decoding.next_value.Goals as goal
 

@@ -1,5 +1,5 @@
 -- The mark is below 2^31.
-use Rattle.std.proofs.Common.{arith, rules}
+use Rattle.std.proofs.Common.{arith}
 use Rattle.lists.proofs.ValueLaws.{mark_lt}
 use Rattle.lists.proofs.decoding.no_plain.Goals as goal
 

@@ -1,8 +1,6 @@
 -- The definition's two questions, one after the other: a smaller sum, and low six bits that are no rank where the mark bit is set.
-use Rattle.std.proofs.Common.{not, sym, ap, ◌∙◌, rules}
-use borrow.Author.Tests.{not-true, not-false}
+use Rattle.std.proofs.Common.{not, sym, ap, ◌∙◌}
 use Rattle.lists.proofs.DecodingLaws.{refused_less, refused_plain, refused_rank}
-use Rattle.std.proofs.lemmas.Bool.{not_from_false, not_from_true}
 use Rattle.lists.proofs.decoding.refused_here.Goals as goal
 
 pub returns-then-v-last : goal.returns-then-v-last

@@ -1,7 +1,6 @@
 -- What both parts share is what was met twice and what the rests share; at the end a rest is empty.
-use Rattle.std.proofs.Common.{◌≡◌, ◌+◌, ◌-◌, length, get_or, refl, inl, inr, ⊎_elim, arith, rules}
-use Rattle.lists.proofs.MergeLaws.{valid_at}
-use Rattle.lists.proofs.IndexLaws.{Walking, walk_start, walk_on, walk_less, walk_out}
+use Rattle.std.proofs.Common.{◌≡◌, ◌+◌, ◌-◌, length}
+use Rattle.lists.proofs.IndexLaws.{Walking}
 use Rattle.lists.proofs.indices.distinct_indices.Given as goal
 
 abbrev pub invariant-loop-i : goal.invariant-loop-i

@@ -1,6 +1,5 @@
-use Rattle.std.proofs.Common.{◌-◌, ◌^◌, ◌≤◌, arith, rules}
-use Rattle.lists.specs.Registers.{registers_of, cleared_from}
-use Rattle.lists.proofs.RegisterLaws.{not_yet, Done, clear_start, cleared_at, done_holds, done_length, done_end, done_store}
+use Rattle.std.proofs.Common.{◌^◌, arith}
+use Rattle.lists.proofs.RegisterLaws.{not_yet, clear_start, cleared_at, done_holds, done_length, done_end, done_store}
 use Rattle.lists.proofs.registers.clear_from.Goals as goal
 
 pub loop-i-init : goal.loop-i-init

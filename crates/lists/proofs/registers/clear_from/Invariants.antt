@@ -1,7 +1,7 @@
 -- The loop's invariant: the registers before i are those of the row with zeros, the others as they were.
-use Rattle.std.proofs.Common.{◌-◌, ◌^◌, ◌≤◌, arith, rules}
+use Rattle.std.proofs.Common.{◌-◌, ◌≤◌}
 use Rattle.lists.specs.Registers.{registers_of, cleared_from}
-use Rattle.lists.proofs.RegisterLaws.{not_yet, Done, clear_start, cleared_at, done_holds, done_length, done_end, done_store}
+use Rattle.lists.proofs.RegisterLaws.{Done}
 use Rattle.lists.proofs.registers.clear_from.Given as goal
 
 abbrev pub invariant-loop-i : goal.invariant-loop-i

@@ -1,5 +1,5 @@
 -- Cleared from 0 on, all are zero.
-use Rattle.std.proofs.Common.{ℕ, List, ap, ◌∙◌, rules}
+use Rattle.std.proofs.Common.{ℕ, List, ap, ◌∙◌}
 use Rattle.lists.specs.Registers.{registers_of, with_registers}
 use Rattle.lists.proofs.RegisterLaws.{cleared_all}
 use Rattle.lists.proofs.registers.clear_registers.Goals as goal

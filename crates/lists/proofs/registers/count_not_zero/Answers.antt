@@ -1,6 +1,6 @@
-use Rattle.std.proofs.Common.{◌-◌, ◌^◌, ◌≤◌, arith, rules}
+use Rattle.std.proofs.Common.{◌^◌, arith}
 use Rattle.lists.specs.Registers.{registers_of}
-use Rattle.lists.proofs.RegisterLaws.{not_yet, of_length, CountingNotZero, count_none, count_turn, count_end, first_held}
+use Rattle.lists.proofs.RegisterLaws.{not_yet, of_length, count_none, count_turn, count_end, first_held}
 use Rattle.lists.proofs.registers.count_not_zero.Goals as goal
 
 pub loop-i-init : goal.loop-i-init

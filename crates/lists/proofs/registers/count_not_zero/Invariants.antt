@@ -1,7 +1,7 @@
 -- The loop's invariant: the count and the registers from i on that are not zero make the whole count.
-use Rattle.std.proofs.Common.{◌-◌, ◌^◌, ◌≤◌, arith, rules}
+use Rattle.std.proofs.Common.{◌-◌, ◌^◌, ◌≤◌}
 use Rattle.lists.specs.Registers.{registers_of}
-use Rattle.lists.proofs.RegisterLaws.{not_yet, of_length, CountingNotZero, count_none, count_turn, count_end, first_held}
+use Rattle.lists.proofs.RegisterLaws.{CountingNotZero}
 use Rattle.lists.proofs.registers.count_not_zero.Given as goal
 
 abbrev pub invariant-loop-i : goal.invariant-loop-i

@@ -1,6 +1,5 @@
-use Rattle.std.proofs.Common.{◌+◌, ◌-◌, ◌^◌, ◌<◌, arith, rules}
-use Rattle.lists.specs.Registers.{registers_of, larger, lowered}
-use Rattle.lists.proofs.RegisterLaws.{Done, downgrade_start, downgrade_block, downgrade_turn, done_holds, done_length, done_end}
+use Rattle.std.proofs.Common.{◌^◌, ◌<◌, arith}
+use Rattle.lists.proofs.RegisterLaws.{downgrade_start, downgrade_block, downgrade_turn, done_holds, done_length, done_end}
 use Rattle.lists.proofs.registers.downgrade_registers_max_into.Goals as goal
 
 pub loop-t-init : goal.loop-t-init

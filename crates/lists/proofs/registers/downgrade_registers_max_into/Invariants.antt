@@ -1,7 +1,7 @@
 -- The loop's invariant: the registers before t are the larger of both rows, the others as they were.
-use Rattle.std.proofs.Common.{◌+◌, ◌-◌, ◌^◌, ◌<◌, arith, rules}
+use Rattle.std.proofs.Common.{◌+◌, ◌-◌}
 use Rattle.lists.specs.Registers.{registers_of, larger, lowered}
-use Rattle.lists.proofs.RegisterLaws.{Done, downgrade_start, downgrade_block, downgrade_turn, done_holds, done_length, done_end}
+use Rattle.lists.proofs.RegisterLaws.{Done}
 use Rattle.lists.proofs.registers.downgrade_registers_max_into.Given as goal
 
 abbrev pub invariant-loop-t : goal.invariant-loop-t

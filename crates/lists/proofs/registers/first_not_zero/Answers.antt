@@ -1,5 +1,5 @@
-use Rattle.std.proofs.Common.{◌-◌, arith, rules}
-use Rattle.lists.proofs.RegisterLaws.{Scanned, scan_none, scan_turn, scan_found, scan_end}
+use Rattle.std.proofs.Common.{arith}
+use Rattle.lists.proofs.RegisterLaws.{scan_none, scan_turn, scan_found, scan_end}
 use Rattle.lists.proofs.registers.first_not_zero.Goals as goal
 
 pub loop-i-init : goal.loop-i-init

@@ -1,6 +1,6 @@
 -- The loop's invariant: no register from `from` on and before i is other than zero.
-use Rattle.std.proofs.Common.{◌-◌, arith, rules}
-use Rattle.lists.proofs.RegisterLaws.{Scanned, scan_none, scan_turn, scan_found, scan_end}
+use Rattle.std.proofs.Common.{◌-◌}
+use Rattle.lists.proofs.RegisterLaws.{Scanned}
 use Rattle.lists.proofs.registers.first_not_zero.Given as goal
 
 abbrev pub invariant-loop-i : goal.invariant-loop-i

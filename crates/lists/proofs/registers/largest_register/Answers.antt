@@ -1,6 +1,6 @@
-use Rattle.std.proofs.Common.{◌≡◌, ◌-◌, ◌^◌, ◌≤◌, max, drop, arith, rules}
+use Rattle.std.proofs.Common.{◌^◌, arith}
 use native.Mathlib.Nat.{zero-max}
-use Rattle.lists.specs.Registers.{registers_of, largest}
+use Rattle.lists.specs.Registers.{registers_of}
 use Rattle.lists.proofs.RegisterLaws.{not_yet, of_length, top_turn, top_end, first_held}
 use Rattle.lists.proofs.registers.largest_register.Goals as goal
 

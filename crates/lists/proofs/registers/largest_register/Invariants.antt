@@ -1,8 +1,6 @@
 -- The loop's invariant: the largest of `top` and of the registers from i on is the largest of all.
-use Rattle.std.proofs.Common.{◌≡◌, ◌-◌, ◌^◌, ◌≤◌, max, drop, arith, rules}
-use native.Mathlib.Nat.{zero-max}
+use Rattle.std.proofs.Common.{◌≡◌, ◌-◌, ◌^◌, ◌≤◌, max, drop}
 use Rattle.lists.specs.Registers.{registers_of, largest}
-use Rattle.lists.proofs.RegisterLaws.{not_yet, of_length, top_turn, top_end, first_held}
 use Rattle.lists.proofs.registers.largest_register.Given as goal
 
 abbrev pub invariant-loop-i : goal.invariant-loop-i

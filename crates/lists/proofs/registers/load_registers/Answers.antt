@@ -1,6 +1,5 @@
-use Rattle.std.proofs.Common.{◌-◌, ◌^◌, arith, rules}
-use Rattle.lists.specs.Registers.{registers_of}
-use Rattle.lists.proofs.RegisterLaws.{not_yet, Done, load_start, load_turn, done_holds, done_length, done_end, first_held}
+use Rattle.std.proofs.Common.{◌^◌, arith}
+use Rattle.lists.proofs.RegisterLaws.{not_yet, load_start, load_turn, done_holds, done_length, done_end, first_held}
 use Rattle.lists.proofs.registers.load_registers.Goals as goal
 
 pub loop-i-init : goal.loop-i-init

@@ -1,6 +1,5 @@
-use Rattle.std.proofs.Common.{◌-◌, ◌^◌, ◌<◌, ◌≤◌, ◌++◌, drop, arith, rules}
-use Rattle.lists.specs.Registers.{registers_of, lowered}
-use Rattle.lists.proofs.RegisterLaws.{Done, lower_start, lower_block, lower_turn, lower_holds, lower_end, done_length}
+use Rattle.std.proofs.Common.{◌-◌, ◌^◌, ◌<◌, arith}
+use Rattle.lists.proofs.RegisterLaws.{lower_start, lower_block, lower_turn, lower_holds, lower_end, done_length}
 use Rattle.lists.proofs.registers.lower_blocks.Goals as goal
 
 pub loop-t-init : goal.loop-t-init
@@ -16,11 +15,11 @@ store_register-requires c = let l = c.loop-t in
 
 pub loop-t-preserved : goal.loop-t-preserved
 loop-t-preserved c = let l = c.loop-t in (
-      lower_turn c.args.p c.args.d c.args.registers.now c.requires l.registers l.t
-          (let h : l.t < 2 ^ (c.args.p - c.args.d) = omega arith in h) l.invariant.0 _ c.lowered_block-r.result c.lowered_block-r.ensures
-          c.store_register.ensures,
-      omega arith,
-    )
+  lower_turn c.args.p c.args.d c.args.registers.now c.requires l.registers l.t
+      (let h : l.t < 2 ^ (c.args.p - c.args.d) = omega arith in h) l.invariant.0 _ c.lowered_block-r.result c.lowered_block-r.ensures
+      c.store_register.ensures,
+  omega arith,
+)
 
 pub shape_of-registers : goal.shape_of-registers
 shape_of-registers c = let l = c.loop-t in

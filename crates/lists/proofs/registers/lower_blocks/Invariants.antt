@@ -1,7 +1,7 @@
 -- The loop's invariant: the registers before t are those lowered, the others as they were, so that a block is read as it was.
-use Rattle.std.proofs.Common.{◌-◌, ◌^◌, ◌<◌, ◌≤◌, ◌++◌, drop, arith, rules}
+use Rattle.std.proofs.Common.{◌-◌, ◌^◌, ◌≤◌, ◌++◌, drop}
 use Rattle.lists.specs.Registers.{registers_of, lowered}
-use Rattle.lists.proofs.RegisterLaws.{Done, lower_start, lower_block, lower_turn, lower_holds, lower_end, done_length}
+use Rattle.lists.proofs.RegisterLaws.{Done}
 use Rattle.lists.proofs.registers.lower_blocks.Given as goal
 
 abbrev pub invariant-loop-t : goal.invariant-loop-t

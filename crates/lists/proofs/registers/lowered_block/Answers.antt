@@ -1,5 +1,5 @@
 -- The first register of the block where it is not zero, and else the first that is not, gives what lowering register by register gives.
-use Rattle.std.proofs.Common.{arith, rules}
+use Rattle.std.proofs.Common.{arith}
 use Rattle.lists.proofs.RegisterLaws.{code_fits, code_read, code_small, code_scan, code_decides, code_block}
 use Rattle.lists.proofs.registers.lowered_block.Goals as goal
 

@@ -1,6 +1,5 @@
-use Rattle.std.proofs.Common.{◌-◌, ◌^◌, arith, rules}
-use Rattle.lists.specs.Registers.{registers_of, larger}
-use Rattle.lists.proofs.RegisterLaws.{not_yet, Done, max_start, max_turn, done_holds, done_length, done_end, first_held}
+use Rattle.std.proofs.Common.{◌^◌, arith}
+use Rattle.lists.proofs.RegisterLaws.{not_yet, max_start, max_turn, done_holds, done_length, done_end, first_held}
 use Rattle.lists.proofs.registers.max_into.Goals as goal
 
 pub loop-i-init : goal.loop-i-init

@@ -1,7 +1,7 @@
 -- The loop's invariant: the registers before i are the larger of both rows, the others as they were.
-use Rattle.std.proofs.Common.{◌-◌, ◌^◌, arith, rules}
+use Rattle.std.proofs.Common.{◌-◌}
 use Rattle.lists.specs.Registers.{registers_of, larger}
-use Rattle.lists.proofs.RegisterLaws.{not_yet, Done, max_start, max_turn, done_holds, done_length, done_end, first_held}
+use Rattle.lists.proofs.RegisterLaws.{Done}
 use Rattle.lists.proofs.registers.max_into.Given as goal
 
 abbrev pub invariant-loop-i : goal.invariant-loop-i

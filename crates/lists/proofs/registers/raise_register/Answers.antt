@@ -1,5 +1,4 @@
 -- The byte at the index becomes the larger of itself and the rank.
-use Rattle.std.proofs.Common.{rules}
 use Rattle.lists.proofs.RegisterLaws.{held, raise_post}
 use Rattle.lists.proofs.registers.raise_register.Goals as goal
 

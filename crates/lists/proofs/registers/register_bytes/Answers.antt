@@ -1,5 +1,4 @@
 -- A register is a byte, so that the bytes are as many as the registers.
-use Rattle.std.proofs.Common.{rules}
 use Rattle.lists.proofs.RegisterLaws.{bytes_count}
 use Rattle.lists.proofs.registers.register_bytes.Goals as goal
 

@@ -1,5 +1,4 @@
 -- A shift of 1 by at most 24 places loses no bit.
-use Rattle.std.proofs.Common.{rules}
 use Rattle.lists.proofs.RegisterLaws.{count_is}
 use Rattle.lists.proofs.registers.register_count.Goals as goal
 

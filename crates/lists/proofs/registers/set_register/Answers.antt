@@ -1,5 +1,4 @@
 -- The value's register and rank are those that its two functions give.
-use Rattle.std.proofs.Common.{rules}
 use Rattle.lists.proofs.RegisterLaws.{first_held, set_one}
 use Rattle.lists.proofs.registers.set_register.Goals as goal
 

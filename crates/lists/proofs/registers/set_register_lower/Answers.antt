@@ -1,5 +1,5 @@
 -- The value's register and rank are those that its functions give, d bits lower.
-use Rattle.std.proofs.Common.{◌-◌, ◌/◌, ◌^◌, arith, rules}
+use Rattle.std.proofs.Common.{◌-◌, ◌/◌, ◌^◌, arith}
 use lib.Pow.{shr_le}
 use Rattle.lists.proofs.RegisterLaws.{first_held, lower_index_lem, set_one_lower}
 use Rattle.lists.proofs.registers.set_register_lower.Goals as goal

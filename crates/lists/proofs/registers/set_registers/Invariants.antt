@@ -1,10 +1,7 @@
 -- The loop's invariant: the values left raise the registers to those of the whole list.
-use Rattle.std.proofs.Common.{ℕ, ◌-◌, List, length, get_or, sym, refl, ap, ◌∙◌, rules}
+use Rattle.std.proofs.Common.{◌-◌, length}
 use Rattle.lists.specs.Values.{register, rank}
-use Rattle.lists.specs.Registers.{registers_of, with_registers}
-use Rattle.lists.proofs.RankLaws.{raised_with_lem}
-use Rattle.lists.proofs.MergeLaws.{valid_at}
-use Rattle.lists.proofs.RegisterLaws.{Setting, setting_none, setting_room, setting_turn, setting_end}
+use Rattle.lists.proofs.RegisterLaws.{Setting}
 use Rattle.lists.proofs.registers.set_registers.Given as goal
 
 abbrev pub invariant-loop-i : goal.invariant-loop-i

@@ -1,8 +1,8 @@
-use Rattle.std.proofs.Common.{ℕ, ◌-◌, List, length, get_or, sym, refl, ap, ◌∙◌, rules}
+use Rattle.std.proofs.Common.{ℕ, ◌-◌, List, get_or, sym, refl, ap, ◌∙◌}
 use Rattle.lists.specs.Registers.{registers_of, with_registers}
 use Rattle.lists.proofs.RankLaws.{lower_with, lower_index, lower_rank}
 use Rattle.lists.proofs.MergeLaws.{valid_at}
-use Rattle.lists.proofs.RegisterLaws.{Setting, setting_none, setting_room, setting_turn, setting_end}
+use Rattle.lists.proofs.RegisterLaws.{setting_none, setting_room, setting_turn, setting_end}
 use Rattle.lists.proofs.registers.set_registers_lower.Goals as goal
 
 pub loop-i-init : goal.loop-i-init

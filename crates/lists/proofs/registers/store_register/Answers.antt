@@ -1,5 +1,4 @@
 -- A byte stored at the index is a register set, and the bytes past the registers stay.
-use Rattle.std.proofs.Common.{rules}
 use Rattle.lists.proofs.RegisterLaws.{held, store_post}
 use Rattle.lists.proofs.registers.store_register.Goals as goal
 

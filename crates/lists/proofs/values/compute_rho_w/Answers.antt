@@ -1,6 +1,6 @@
 -- `compute_rho_w` meets its contract: of the low k bits, 32 bits have 32 - k leading zeros more than k bits have.
 use Rattle.lists.proofs.ValueLaws.{mask_pos, zeros32_low, zeros32_high, code_bits}
-use Rattle.std.proofs.Common.{arith, rules}
+use Rattle.std.proofs.Common.{arith}
 use Rattle.lists.proofs.values.compute_rho_w.Goals as goal
 
 pub overflow_sub-low : goal.overflow_sub-low

@@ -1,8 +1,6 @@
 -- `decode_normal_index` meets its contract: a valid marked value is no less than the mark, and the definition has the same two cases.
 use Rattle.lists.proofs.ValueLaws.{code_ge, index_plain_post, index_marked_post}
-use borrow.Author.Tests.{not-true, not-false}
-use Rattle.std.proofs.Common.{sym, ◌∙◌, rules}
-use Rattle.std.proofs.lemmas.Bool.{not_from_false, not_from_true}
+use Rattle.std.proofs.Common.{sym, ◌∙◌}
 use Rattle.lists.proofs.values.decode_normal_index.Goals as goal
 
 pub returns-then-not-is_rho_encoded : goal.returns-then-not-is_rho_encoded

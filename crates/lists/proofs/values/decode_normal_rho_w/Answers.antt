@@ -1,8 +1,6 @@
 -- `decode_normal_rho_w` meets its contract: the definition has the same two cases, and a valid value's rank is at most `largest_rank p`.
 use Rattle.lists.proofs.ValueLaws.{rank_plain_post, rank_marked_post}
-use borrow.Author.Tests.{not-true, not-false}
-use Rattle.std.proofs.Common.{sym, refl, ◌∙◌, rules}
-use Rattle.std.proofs.lemmas.Bool.{not_from_false, not_from_true}
+use Rattle.std.proofs.Common.{sym, refl, ◌∙◌}
 use Rattle.lists.proofs.values.decode_normal_rho_w.Goals as goal
 
 pub returns-then-not-is_rho_encoded : goal.returns-then-not-is_rho_encoded

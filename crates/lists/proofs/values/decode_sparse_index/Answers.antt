@@ -1,9 +1,7 @@
 -- `decode_sparse_index` meets its contract: a valid marked value is no less than the mark, and its index times 2^(s-p) is below 2^s, so the shift
 -- loses nothing.
 use Rattle.lists.proofs.ValueLaws.{sparse_plain, code_ge, code_sparse}
-use borrow.Author.Tests.{not-true, not-false}
-use Rattle.std.proofs.Common.{sym, ◌∙◌, rules}
-use Rattle.std.proofs.lemmas.Bool.{not_from_false, not_from_true}
+use Rattle.std.proofs.Common.{sym, ◌∙◌}
 use Rattle.lists.proofs.values.decode_sparse_index.Goals as goal
 
 pub returns-then-not-is_rho_encoded : goal.returns-then-not-is_rho_encoded

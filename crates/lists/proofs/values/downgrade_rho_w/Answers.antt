@@ -1,6 +1,6 @@
 -- `downgrade_rho_w` meets its contract: of the low d bits, 32 bits have 32 - d leading zeros more than d bits have.
 use Rattle.lists.proofs.ValueLaws.{mask_pos, zeros32_low, zeros32_high, code_lowered_zero, code_lowered_bits}
-use Rattle.std.proofs.Common.{arith, rules}
+use Rattle.std.proofs.Common.{arith}
 use Rattle.lists.proofs.values.downgrade_rho_w.Goals as goal
 
 pub overflow_sub-low : goal.overflow_sub-low

@@ -1,8 +1,6 @@
 -- `is_valid` meets its contract: each return answers the definition's question of that kind of value.
-use Rattle.std.proofs.Common.{ltb, sym, ap, ◌∙◌, arith, rules}
-use borrow.Author.Tests.{not-true, not-false}
+use Rattle.std.proofs.Common.{ltb, sym, ap, ◌∙◌, arith}
 use Rattle.lists.proofs.ValueLaws.{plain_is, marked_far, marked_near}
-use Rattle.std.proofs.lemmas.Bool.{not_from_false, not_from_true}
 use Rattle.lists.proofs.values.is_valid.Goals as goal
 
 pub returns-then-not-is_rho_encoded : goal.returns-then-not-is_rho_encoded

@@ -1,5 +1,5 @@
 -- The mark and the indices behind it stay below 2^32 (`code_end_fits`).
-use Rattle.std.proofs.Common.{arith, rules}
+use Rattle.std.proofs.Common.{arith}
 use Rattle.lists.proofs.ValueLaws.{code_end, code_end_fits}
 use Rattle.lists.proofs.values.marked_end.Goals as goal
 

@@ -1,5 +1,5 @@
 -- One comparison is the definition's two bounds (`code_rank`).
-use Rattle.std.proofs.Common.{arith, rules}
+use Rattle.std.proofs.Common.{arith}
 use Rattle.lists.proofs.ValueLaws.{least_taken, code_rank}
 use Rattle.lists.proofs.values.marked_rank_fits.Goals as goal
 

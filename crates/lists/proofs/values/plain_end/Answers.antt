@@ -1,5 +1,4 @@
 -- The least low six bits are 1 or 0, so that 0 or 1 is shifted (`code_plain_end`).
-use Rattle.std.proofs.Common.{rules}
 use Rattle.lists.proofs.ValueLaws.{code_plain_end}
 use Rattle.lists.proofs.values.plain_end.Goals as goal
 

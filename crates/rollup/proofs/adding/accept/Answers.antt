@@ -1,5 +1,5 @@
 -- The numbers are the state's (`accept_path`, `accept_taking`), and what is left is what an accepted state leaves (`accept_post`).
-use Rattle.std.proofs.Common.{sym, length-take-le, rules}
+use Rattle.std.proofs.Common.{sym, length-take-le}
 use Rattle.rollup.proofs.AddLaws.{accept_few, accept_kept, accept_path, accept_taking, accept_post}
 use Rattle.rollup.proofs.adding.accept.Goals as goal
 

@@ -1,5 +1,5 @@
 -- The mask is that of the value type.
-use Rattle.std.proofs.Common.{ℕ, ◌*◌, List, ap, rules}
+use Rattle.std.proofs.Common.{ℕ, ◌*◌, List, ap}
 use Rattle.rollup.specs.declared.incoming.Incoming.{Incoming}
 use Rattle.rollup.specs.Accumulator.{max_pending}
 use Rattle.rollup.proofs.adding.state_numbers.Goals as goal

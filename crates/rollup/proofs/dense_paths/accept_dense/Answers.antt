@@ -1,6 +1,5 @@
 -- The roll-up's registers are lowered first; what comes in raises them, and the freed ones stay zero.
 use Rattle.rollup.proofs.DenseLaws.{dense_raise, dense_post}
-use Rattle.std.proofs.Common.{rules}
 use Rattle.rollup.proofs.dense_paths.accept_dense.Goals as goal
 
 pub lower_own-q-requires : goal.lower_own-q-requires

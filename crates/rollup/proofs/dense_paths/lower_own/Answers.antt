@@ -1,6 +1,5 @@
 -- Registers of the smaller precision are as they were; others are lowered in place by lists.
 use Rattle.rollup.proofs.DenseLaws.{own_kept, own_lower, own_lowered}
-use Rattle.std.proofs.Common.{rules}
 use Rattle.rollup.proofs.dense_paths.lower_own.Goals as goal
 
 pub returns-then-p-other : goal.returns-then-p-other

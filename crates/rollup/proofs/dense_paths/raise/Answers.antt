@@ -1,6 +1,5 @@
 -- Without a row the values raise the registers.
 use Rattle.rollup.proofs.DenseLaws.{raise_list, raised_list, raise_row, raised_row}
-use Rattle.std.proofs.Common.{rules}
 use Rattle.rollup.proofs.dense_paths.raise.Goals as goal
 
 pub raise_by_list-requires : goal.raise_by_list-requires

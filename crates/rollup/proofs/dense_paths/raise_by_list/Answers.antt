@@ -1,6 +1,5 @@
 -- At one precision the values raise their own registers, and else those of fewer bits, both by lists.
 use Rattle.rollup.proofs.DenseLaws.{list_lower, list_lowered, list_set, list_raised}
-use Rattle.std.proofs.Common.{rules}
 use Rattle.rollup.proofs.dense_paths.raise_by_list.Goals as goal
 
 pub set_registers_lower-requires : goal.set_registers_lower-requires

@@ -1,6 +1,5 @@
 -- At one precision the larger of both rows, and else the larger of the one and the other lowered, both by lists.
 use Rattle.rollup.proofs.DenseLaws.{row_lower, row_lowered, row_both, row_larger}
-use Rattle.std.proofs.Common.{rules}
 use Rattle.rollup.proofs.dense_paths.raise_by_row.Goals as goal
 
 pub downgrade_registers_max_into-requires : goal.downgrade_registers_max_into-requires

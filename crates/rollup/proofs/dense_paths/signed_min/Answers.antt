@@ -1,6 +1,5 @@
 -- Adding 2^31 to each, with wrapping, puts the numbers in the order that they have as signed ones.
 use Rattle.rollup.proofs.DenseLaws.{signed_second, signed_first}
-use Rattle.std.proofs.Common.{rules}
 use Rattle.rollup.proofs.dense_paths.signed_min.Goals as goal
 
 pub returns-then-b-a : goal.returns-then-b-a

@@ -1,5 +1,5 @@
 -- Each test is one part of the definition, and the last answers for all where the others were passed.
-use Rattle.std.proofs.Common.{◌∙◌, arith, rules}
+use Rattle.std.proofs.Common.{◌∙◌, arith}
 use Rattle.rollup.proofs.FitLaws.{Counts, counts_yes, counts_no}
 use Rattle.rollup.proofs.fitting.counts_fit.Goals as goal
 

@@ -1,5 +1,5 @@
 -- Each test is one part of the definition, and the registers answer for all where the others were passed.
-use Rattle.std.proofs.Common.{not, sym, ap, ◌∙◌, rules, eq-eqb, ne_eqb}
+use Rattle.std.proofs.Common.{not, sym, ap, ◌∙◌, eq-eqb, ne_eqb}
 use Rattle.wire.proofs.BoolLaws.{both, said_yes, said_no}
 use Rattle.rollup.proofs.FitLaws.{both_yes, both_no, range_of}
 use Rattle.std.proofs.lemmas.Bool.{not_from_false, not_from_true}

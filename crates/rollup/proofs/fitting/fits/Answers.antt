@@ -1,5 +1,5 @@
 -- By the form: each asks for its own part of the memory.
-use Rattle.std.proofs.Common.{sym, ◌∙◌, rules}
+use Rattle.std.proofs.Common.{sym, ◌∙◌}
 use Rattle.rollup.specs.declared.accumulator.Form.TheVariants.{Unstarted, Sparse, Dense}
 use Rattle.rollup.specs.Accumulator.{mem}
 use Rattle.rollup.proofs.FitLaws.{fits_form_lem}

@@ -1,5 +1,5 @@
 -- Each test is one part of the definition, and the last answers for all where the others were passed.
-use Rattle.std.proofs.Common.{ℕ, leb, sym, ap, ◌∙◌, true≢false, rules}
+use Rattle.std.proofs.Common.{ℕ, leb, sym, ap, ◌∙◌, true≢false}
 use Rattle.wire.proofs.BoolLaws.{said_yes, said_no}
 use Rattle.rollup.proofs.FitLaws.{Lists, lists_yes, lists_no, valid_by}
 use Rattle.std.proofs.lemmas.Bool.{not_from_false, not_from_true}

@@ -1,5 +1,5 @@
 -- One range after the other.
-use Rattle.std.proofs.Common.{sym, ◌∙◌, rules}
+use Rattle.std.proofs.Common.{sym, ◌∙◌}
 use Rattle.wire.proofs.BoolLaws.{said_yes, said_no}
 use Rattle.rollup.specs.Accumulator.{sparse_range}
 use Rattle.rollup.proofs.FitLaws.{both_yes, both_no}

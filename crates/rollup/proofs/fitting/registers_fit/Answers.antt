@@ -1,6 +1,5 @@
 -- The registers are there before the largest is looked for.
 use Rattle.rollup.proofs.FitLaws.{few_bytes, enough_bytes}
-use Rattle.std.proofs.Common.{rules}
 use Rattle.rollup.proofs.fitting.registers_fit.Goals as goal
 
 pub returns-then-registers-register_bytes : goal.returns-then-registers-register_bytes

@@ -1,5 +1,5 @@
 -- A one shifted by p - 2 is 2^(p-2), at most 2^22.
-use Rattle.std.proofs.Common.{arith, rules}
+use Rattle.std.proofs.Common.{arith}
 use Rattle.rollup.proofs.FitLaws.{limit_code}
 use Rattle.rollup.proofs.fitting.size_limit.Goals as goal
 

@@ -1,5 +1,5 @@
 -- Where a value waits, the test is the definition's.
-use Rattle.std.proofs.Common.{sym, rules}
+use Rattle.std.proofs.Common.{sym}
 use Rattle.rollup.proofs.FitLaws.{wait_none, wait_some}
 use Rattle.rollup.proofs.fitting.waiting_fits.Goals as goal
 

@@ -1,5 +1,4 @@
 -- A shift of 1 by at most 24 places is 2^p, and the part that is handed out is the field's bytes.
-use Rattle.std.proofs.Common.{rules}
 use Rattle.wire.specs.State.{state_of}
 use Rattle.rollup.specs.Header.{data_of}
 use Rattle.rollup.proofs.JudgeLaws.{sized_none, sized_some}

@@ -1,5 +1,4 @@
 -- Without list bytes the first half of the question holds, and with them the second half alone decides.
-use Rattle.std.proofs.Common.{rules}
 use Rattle.wire.specs.State.{state_of}
 use Rattle.rollup.specs.Header.{list_of}
 use Rattle.rollup.proofs.JudgeLaws.{said_none, said_some, either_yes, either_no}

@@ -1,5 +1,5 @@
 -- The three returns are the definition's cases: a list, data alone, neither.
-use Rattle.std.proofs.Common.{sym, ◌∙◌, rules}
+use Rattle.std.proofs.Common.{sym, ◌∙◌}
 use Rattle.wire.specs.State.{state_of}
 use Rattle.rollup.proofs.JudgeLaws.{either_yes, needs_data, needs_sparse}
 use Rattle.rollup.proofs.header.needs_pair.Goals as goal

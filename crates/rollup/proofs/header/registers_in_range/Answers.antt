@@ -1,5 +1,4 @@
 -- Data that passed 12 is 2^p bytes, so that its largest register is its largest byte; no data has none above 0.
-use Rattle.std.proofs.Common.{rules}
 use Rattle.wire.specs.State.{state_of}
 use Rattle.rollup.proofs.JudgeLaws.{data_high, data_holds, registers_none, registers_some}
 use Rattle.rollup.proofs.header.registers_in_range.Goals as goal

@@ -1,5 +1,5 @@
 -- What 7 to 13 refuse is refused with their number; where they pass, 14 decides.
-use Rattle.std.proofs.Common.{sym, ◌∙◌, rules}
+use Rattle.std.proofs.Common.{sym, ◌∙◌}
 use Rattle.wire.proofs.BoolLaws.{said_yes, said_no}
 use Rattle.wire.specs.State.{state_of}
 use Rattle.rollup.proofs.JudgeLaws.{go, stop, structure_no, structure_yes}

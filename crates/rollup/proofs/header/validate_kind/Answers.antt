@@ -1,5 +1,4 @@
 -- Each return is the definition's answer where the questions before it are passed and this one is not.
-use Rattle.std.proofs.Common.{rules}
 use Rattle.wire.proofs.BoolLaws.{said_yes, said_no}
 use Rattle.wire.specs.State.{state_of}
 use Rattle.rollup.proofs.JudgeLaws.{kind_7, kind_8, kind_9, kind_0}

@@ -1,6 +1,5 @@
 -- The sum wraps as the definition has it (`counted_head`).
 use Rattle.rollup.proofs.SparseLaws.{counted_head}
-use Rattle.std.proofs.Common.{rules}
 use Rattle.rollup.proofs.incoming.counted.Goals as goal
 
 pub returns : goal.returns

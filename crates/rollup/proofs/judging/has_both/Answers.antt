@@ -1,5 +1,5 @@
 -- The presence of field 6 is the second half of the definition's test.
-use Rattle.std.proofs.Common.{sym, ◌∙◌, rules}
+use Rattle.std.proofs.Common.{sym, ◌∙◌}
 use Rattle.wire.proofs.BoolLaws.{said_yes, said_no}
 use Rattle.rollup.proofs.FitLaws.{both_no, both_yes}
 use Rattle.rollup.proofs.JudgeLaws.{has_field_lem}

@@ -1,5 +1,5 @@
 -- The three tests are the definition's three, in its order.
-use Rattle.std.proofs.Common.{not, sym, ap, ◌∙◌, rules, eq-eqb, ne_eqb}
+use Rattle.std.proofs.Common.{not, sym, ap, ◌∙◌, eq-eqb, ne_eqb}
 use Rattle.wire.proofs.BoolLaws.{both}
 use Rattle.rollup.proofs.FitLaws.{both_yes, both_no}
 use Rattle.rollup.proofs.judging.is_carried.Goals as goal

@@ -1,6 +1,5 @@
 -- What `read_header` refused stays refused; of what it read, `validate_match` decides.
 use Rattle.rollup.proofs.JudgeLaws.{judge_refused, judge_no, judge_yes}
-use Rattle.std.proofs.Common.{rules}
 use Rattle.rollup.proofs.judging.judge.Goals as goal
 
 pub returns-in_default : goal.returns-in_default

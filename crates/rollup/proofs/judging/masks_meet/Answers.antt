@@ -1,5 +1,5 @@
 -- Before the first state there is one mask; after it the masks meet where a bit is common.
-use Rattle.std.proofs.Common.{ℕ, not, eqb, sym, ap, ◌∙◌, rules}
+use Rattle.std.proofs.Common.{ℕ, not, eqb, sym, ap, ◌∙◌}
 use lib.Bits.{bit_and}
 use Rattle.rollup.proofs.JudgeLaws.{either_yes, either_no}
 use Rattle.rollup.proofs.judging.masks_meet.Goals as goal

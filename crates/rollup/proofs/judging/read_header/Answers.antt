@@ -1,6 +1,5 @@
 -- Reading answers as the definition of reading does, and its refusal is handed on; what was read is asked by `validate_header`.
 use Rattle.rollup.proofs.JudgeLaws.{read_2, read_refused, read_no, read_yes}
-use Rattle.std.proofs.Common.{rules}
 use Rattle.rollup.proofs.judging.read_header.Goals as goal
 
 pub returns-then-bytes-gt2147483647 : goal.returns-then-bytes-gt2147483647

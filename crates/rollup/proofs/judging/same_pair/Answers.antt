@@ -1,5 +1,5 @@
 -- The forms are those of the definition; at a list roll-up both precisions are compared.
-use Rattle.std.proofs.Common.{sym, ap, ◌∙◌, rules, eq-eqb, ne_eqb}
+use Rattle.std.proofs.Common.{sym, ap, ◌∙◌, eq-eqb, ne_eqb}
 use Rattle.wire.specs.State.{state_of}
 use Rattle.rollup.specs.declared.accumulator.Form.{Form}
 use Rattle.rollup.specs.Adding.{same_pair}

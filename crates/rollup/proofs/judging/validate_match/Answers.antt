@@ -2,7 +2,6 @@
 use Rattle.wire.proofs.BoolLaws.{said_yes, said_no}
 use Rattle.wire.specs.State.{state_of}
 use Rattle.rollup.proofs.JudgeLaws.{match_15, match_16, match_0}
-use Rattle.std.proofs.Common.{rules}
 use Rattle.std.proofs.lemmas.Bool.{not_from_false, not_from_true}
 use Rattle.rollup.proofs.judging.validate_match.Goals as goal
 

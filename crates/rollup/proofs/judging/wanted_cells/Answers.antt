@@ -1,5 +1,5 @@
 -- No bytes want no cell, and others as many as the definition sums up.
-use Rattle.std.proofs.Common.{◌+◌, Bool, cond, sym, ap, rules, eq-eqb, ne_eqb}
+use Rattle.std.proofs.Common.{◌+◌, Bool, cond, sym, ap, eq-eqb, ne_eqb}
 use Rattle.rollup.proofs.judging.wanted_cells.Goals as goal
 
 pub returns-then-n-eq0 : goal.returns-then-n-eq0

@@ -1,5 +1,5 @@
 -- The forms are those of the definition.
-use Rattle.std.proofs.Common.{sym, ap, rules}
+use Rattle.std.proofs.Common.{sym, ap}
 use Rattle.rollup.specs.declared.accumulator.Form.{Form}
 use Rattle.rollup.specs.Adding.{wanted_precision}
 use Rattle.rollup.proofs.judging.wanted_precision.Goals as goal

@@ -1,5 +1,5 @@
 -- The registers of the precision that is wanted.
-use Rattle.std.proofs.Common.{ℕ, ◌≤◌, sym, ap, ◌∙◌, subst, rules}
+use Rattle.std.proofs.Common.{ℕ, ◌≤◌, sym, ap, ◌∙◌, subst}
 use Rattle.lists.specs.Registers.{register_bytes}
 use Rattle.rollup.proofs.judging.wanted_registers.Goals as goal
 

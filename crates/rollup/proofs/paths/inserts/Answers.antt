@@ -1,5 +1,5 @@
 -- The three questions, in order (`insert_many` to `insert_slots`).
-use Rattle.std.proofs.Common.{◌≡◌, ℕ, true, sym, rules}
+use Rattle.std.proofs.Common.{◌≡◌, ℕ, true, sym}
 use Rattle.lists.specs.Lists.{all_valid, distinct_slots}
 use Rattle.rollup.proofs.SparseLaws.{at_pair, of_pair}
 use Rattle.rollup.proofs.PathLaws.{insert_many, insert_short, insert_slots}

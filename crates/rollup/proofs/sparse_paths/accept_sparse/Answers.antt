@@ -1,5 +1,5 @@
 -- What the path tells gives what its function requires (`densify_pre` to `insert_pre`); each leaves its case of the definition (`shows_row` to `shows_merged`).
-use Rattle.std.proofs.Common.{sym, ap, inl, inr, ⊎_elim, length-take-le, rules}
+use Rattle.std.proofs.Common.{sym, ap, inl, inr, length-take-le}
 use Rattle.rollup.proofs.PathLaws.{is_some}
 use Rattle.rollup.proofs.SparseLaws.{taking_fit, densify_pre, wait_pre, merge_pre, insert_pre, shows_row, shows_none, shows_waits, shows_inserted, shows_merged}
 use Rattle.rollup.proofs.sparse_paths.accept_sparse.Goals as goal

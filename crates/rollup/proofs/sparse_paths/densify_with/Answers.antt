@@ -1,5 +1,5 @@
 -- Both lists are set, and then the row is taken in (`row_over`).
-use Rattle.std.proofs.Common.{◌≡◌, ℕ, ◌^◌, ◌≤◌, true, ◌++◌, length, rules}
+use Rattle.std.proofs.Common.{◌≡◌, ℕ, ◌^◌, ◌≤◌, true, ◌++◌, length}
 use Rattle.lists.specs.Lists.{all_valid}
 use Rattle.lists.specs.Registers.{register_bytes, with_registers, zeros, raised_by, larger}
 use Rattle.lists.proofs.RegisterLaws.{row_holds}

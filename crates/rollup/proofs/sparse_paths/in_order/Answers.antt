@@ -1,5 +1,5 @@
 -- Where nothing waits the list ascends, and sorting leaves it as it is.
-use Rattle.std.proofs.Common.{sym, rules}
+use Rattle.std.proofs.Common.{sym}
 use Rattle.lists.proofs.OrderLaws.{sort_of_ascends}
 use Rattle.rollup.proofs.sparse_paths.in_order.Goals as goal
 

@@ -1,5 +1,5 @@
 -- The values are inserted, and the list is settled (`inserted_shows`).
-use Rattle.std.proofs.Common.{ℕ, List, sym, length-take-le, rules}
+use Rattle.std.proofs.Common.{ℕ, List, sym, length-take-le}
 use Rattle.rollup.proofs.SparseLaws.{insert_into, inserted_inside, inserted_settle, inserted_shows}
 use Rattle.rollup.proofs.sparse_paths.insert_in.Goals as goal
 

@@ -1,10 +1,12 @@
 -- The merge stands in `scratch`; the copy brings it to `sparse` (`merge_copied`).
-use Rattle.std.proofs.Common.{◌≤◌, length, take, sym, arith, length-take-le, rules}
+use Rattle.std.proofs.Common.{◌≤◌, length, take, sym, arith, length-take-le}
 use Rattle.rollup.proofs.SparseLaws.{back_fits, back_scratch, merge_copied}
 use Rattle.rollup.proofs.sparse_paths.merge_back.Goals as goal
 
 pub slice_bounds-merge_dedupe_into-end-2 : goal.slice_bounds-merge_dedupe_into-end-2
-slice_bounds-merge_dedupe_into-end-2 c = let h : c.args.n ≤ length c.args.sparse.now = omega (arith, c.requires.room) in sym (length-take-le c.args.n c.args.sparse.now h)
+slice_bounds-merge_dedupe_into-end-2 c =
+    let h : c.args.n ≤ length c.args.sparse.now = omega (arith, c.requires.room) in
+    sym (length-take-le c.args.n c.args.sparse.now h)
 
 pub copy_run-requires : goal.copy_run-requires
 copy_run-requires c = let a = c.args in

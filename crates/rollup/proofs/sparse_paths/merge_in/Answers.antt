@@ -1,5 +1,5 @@
 -- All values are merged, and the list is settled (`merged_shows`).
-use Rattle.std.proofs.Common.{sym, length-take-le, rules}
+use Rattle.std.proofs.Common.{sym, length-take-le}
 use Rattle.rollup.proofs.SparseLaws.{merge_join, merged_inside, merged_settle, merged_shows}
 use Rattle.rollup.proofs.sparse_paths.merge_in.Goals as goal
 

@@ -1,6 +1,5 @@
 -- The list is set in cleared registers (`cleared_set`).
 use Rattle.rollup.proofs.SparseLaws.{cleared_set}
-use Rattle.std.proofs.Common.{rules}
 use Rattle.rollup.proofs.sparse_paths.set_list.Goals as goal
 
 pub returns : goal.returns

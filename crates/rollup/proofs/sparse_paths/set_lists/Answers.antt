@@ -1,6 +1,5 @@
 -- One list after the other is set, which is both as one (`both_set`).
 use Rattle.rollup.proofs.SparseLaws.{set_room, both_set}
-use Rattle.std.proofs.Common.{rules}
 use Rattle.rollup.proofs.sparse_paths.set_lists.Goals as goal
 
 pub set_list-requires : goal.set_list-requires
@@ -8,10 +7,10 @@ set_list-requires c = record { fits = c.requires.fits; ok = c.requires.kept_vali
 
 pub set_registers-requires : goal.set_registers-requires
 set_registers-requires c = record {
-      fits = c.requires.fits;
-      ok = c.requires.waiting_valid;
-      room = set_room c.args.enc.normal_precision c.args.enc.sparse_precision c.args.registers.now c.requires.room c.args.kept.now _ c.set_list.ensures;
-    }
+  fits = c.requires.fits;
+  ok = c.requires.waiting_valid;
+  room = set_room c.args.enc.normal_precision c.args.enc.sparse_precision c.args.registers.now c.requires.room c.args.kept.now _ c.set_list.ensures;
+}
 
 pub returns : goal.returns
 returns c = both_set c.args.enc.normal_precision c.args.enc.sparse_precision c.args.registers.now c.requires.room c.args.kept.now c.args.waiting.now _ _ c.set_list.ensures c.set_registers.ensures

@@ -1,5 +1,5 @@
 -- Below the limit nothing but the head changes (`settle_list`); from it on the list is set (`settle_dense`).
-use Rattle.std.proofs.Common.{◌≡◌, ℕ, rules}
+use Rattle.std.proofs.Common.{◌≡◌, ℕ}
 use Rattle.lists.specs.Registers.{with_registers, zeros, raised_by}
 use Rattle.rollup.proofs.SparseLaws.{at_pair, settle_list, settle_dense}
 use Rattle.rollup.proofs.sparse_paths.settle.Goals as goal

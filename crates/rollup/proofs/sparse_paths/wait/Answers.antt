@@ -1,5 +1,5 @@
 -- The copy ends after the values that come in, which is the new count (`copied`).
-use Rattle.std.proofs.Common.{◌≡◌, ℕ, ◌+◌, ap, ◌∙◌, arith, rules}
+use Rattle.std.proofs.Common.{◌≡◌, ℕ, ◌+◌, ap, ◌∙◌, arith}
 use Rattle.rollup.proofs.SparseLaws.{copied}
 use Rattle.rollup.specs.Taking.{with_list}
 use Rattle.rollup.proofs.sparse_paths.wait.Goals as goal

@@ -1,5 +1,5 @@
 -- The values are copied, or the row is loaded as registers, and the head is that of what comes in.
-use Rattle.std.proofs.Common.{arith, rules}
+use Rattle.std.proofs.Common.{arith}
 use Rattle.rollup.proofs.StartLaws.{start_load, start_list_lem, start_dense_lem}
 use Rattle.rollup.proofs.starting.start.Goals as goal
 

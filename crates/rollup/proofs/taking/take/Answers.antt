@@ -1,5 +1,5 @@
 -- Each form has its function, which requires what taking in does (`start_pre`, `dense_pre`) and leaves its case of the definition.
-use Rattle.std.proofs.Common.{take, sym, length-take-le, rules}
+use Rattle.std.proofs.Common.{take, sym, length-take-le}
 use Rattle.rollup.proofs.TakeLaws.{start_pre, dense_pre, taken_start, taken_sparse, taken_dense}
 use Rattle.rollup.proofs.taking.take.Goals as goal
 

@@ -1,5 +1,5 @@
 -- Sorting what waits changes nothing of the merge (`flush_post`).
-use Rattle.std.proofs.Common.{length, sym, ap, ◌∙◌, arith, rules}
+use Rattle.std.proofs.Common.{length, sym, ap, ◌∙◌, arith}
 use Rattle.lists.proofs.OrderLaws.{length_sort}
 use Rattle.rollup.proofs.WriteLaws.{waiting_length, ordered_front, flush_merge, flush_post}
 use Rattle.rollup.proofs.writing.flush_pending.Goals as goal

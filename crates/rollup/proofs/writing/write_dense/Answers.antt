@@ -1,6 +1,5 @@
 -- The register bytes are the data field (`dense_23`, `dense_put`).
 use Rattle.rollup.proofs.WriteLaws.{dense_23, dense_put}
-use Rattle.std.proofs.Common.{rules}
 use Rattle.rollup.proofs.writing.write_dense.Goals as goal
 
 pub returns-in_default : goal.returns-in_default

@@ -1,5 +1,5 @@
 -- 17 (`list_17`); nothing waits, and kept is written (`kept_post`); or the merge is (`flushed_post`).
-use Rattle.std.proofs.Common.{length, sym, refl, arith, length-take-le, rules}
+use Rattle.std.proofs.Common.{length, sym, refl, arith, length-take-le}
 use Rattle.rollup.proofs.WriteLaws.{list_fit, list_short, list_17, kept_pre, kept_post, flush_pre, union_in, index_pre, size_small, flushed_pre, flushed_post}
 use Rattle.rollup.proofs.writing.write_list.Goals as goal
 

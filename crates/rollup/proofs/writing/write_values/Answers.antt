@@ -1,6 +1,6 @@
 -- 22 where the list is at the limit (`values_22`), 23 where head and list do not fit (`values_23`); else the head, and the list in the rest of the
 -- output (`values_written`).
-use Rattle.std.proofs.Common.{arith, rules}
+use Rattle.std.proofs.Common.{arith}
 use Rattle.rollup.proofs.WriteLaws.{values_22, values_small, head_pre, head_small, values_23, values_room, tail_pre, values_written}
 use Rattle.rollup.proofs.writing.write_values.Goals as goal
 

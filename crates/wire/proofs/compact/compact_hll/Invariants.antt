@@ -1,12 +1,8 @@
 -- Each turn reads a field as the general reader does, so the fields read so far and the rest of the message make up the whole
 -- (`HllGoing`).
 use Prim.Native.Nat.{◌+◌, ◌-◌, ◌<◌, ◌^◌}
-use native.Mathlib.Omega.{arith}
 use lib.ListN.{length}
-use borrow.Author.Rules.{rules}
-use Rattle.wire.specs.declared.compact.CompactHllStep.TheVariants.{Next}
-use Rattle.wire.specs.Compact.{CompactHllStepPost}
-use Rattle.wire.proofs.StateLaws.{HllGoing, hll_going_start, hll_going_next, hll_going_end}
+use Rattle.wire.proofs.StateLaws.{HllGoing}
 use Rattle.wire.proofs.compact.compact_hll.Given as goal
 
 abbrev pub invariant-loop-at : goal.invariant-loop-at

@@ -1,12 +1,8 @@
 -- Each turn reads a field as the general reader does, so the fields read so far and the rest of the bytes make up the state
 -- (`StateGoing`).
 use Prim.Native.Nat.{◌-◌}
-use native.Mathlib.Omega.{arith}
 use lib.ListN.{length}
-use borrow.Author.Rules.{rules}
-use Rattle.wire.specs.declared.compact.CompactStep.TheVariants.{Next}
-use Rattle.wire.specs.Compact.{CompactStepPost}
-use Rattle.wire.proofs.StateLaws.{StateGoing, state_going_start, state_going_next, state_going_end}
+use Rattle.wire.proofs.StateLaws.{StateGoing}
 use Rattle.wire.proofs.compact.parse_compact.Given as goal
 
 abbrev pub invariant-loop-at : goal.invariant-loop-at

@@ -6,20 +6,34 @@ use native.Mathlib.Omega.{arith}
 use lib.ListN.{length}
 use Rattle.wire.specs.State.{State, state_of, bytes_or_none}
 use Rattle.wire.proofs.EncodingLaws.{encode_ge, encode_short, encode_written}
-use borrow.Author.Rules.{rules}
 use Rattle.wire.proofs.encoding.encode.Goals as goal
 
 pub returns-then-out-dense : goal.returns-then-out-dense
-returns-then-out-dense c = let state : State = state_of c.args.bytes.now c.args.f in let dense : length c.data-dense.result.now ≡ length (bytes_or_none state.hll.«data») = ap (λ (l : List ℕ). length l) c.data-dense.ensures in encode_short state c.args.out.now (omega (arith, encode_ge state, dense, c.if-out-dense.true))
+returns-then-out-dense c =
+    let state : State = state_of c.args.bytes.now c.args.f in
+    let dense : length c.data-dense.result.now ≡ length (bytes_or_none state.hll.«data») = ap (λ (l : List ℕ). length l) c.data-dense.ensures in
+    encode_short state c.args.out.now (omega (arith, encode_ge state, dense, c.if-out-dense.true))
 
 pub returns-then-out-dense-2 : goal.returns-then-out-dense-2
-returns-then-out-dense-2 c = let state : State = state_of c.args.bytes.now c.args.f in let dense : length c.data-dense.result.now ≡ length (bytes_or_none state.hll.«data») = ap (λ (l : List ℕ). length l) c.data-dense.ensures in let sparse : length c.sparse_data-sparse.result.now ≡ length (bytes_or_none state.hll.sparse_data) = ap (λ (l : List ℕ). length l) c.sparse_data-sparse.ensures in encode_short state c.args.out.now (omega (arith, encode_ge state, dense, sparse, c.if-out-dense.false, c.if-out-dense-2.true))
+returns-then-out-dense-2 c =
+    let state : State = state_of c.args.bytes.now c.args.f in
+    let dense : length c.data-dense.result.now ≡ length (bytes_or_none state.hll.«data») = ap (λ (l : List ℕ). length l) c.data-dense.ensures in
+    let sparse : length c.sparse_data-sparse.result.now ≡ length (bytes_or_none state.hll.sparse_data) = ap (λ (l : List ℕ). length l) c.sparse_data-sparse.ensures in
+    encode_short state c.args.out.now (omega (arith, encode_ge state, dense, sparse, c.if-out-dense.false, c.if-out-dense-2.true))
 
 pub encoded_len-requires : goal.encoded_len-requires
-encoded_len-requires c = let state : State = state_of c.args.bytes.now c.args.f in let dense : length c.data-dense.result.now ≡ length (bytes_or_none state.hll.«data») = ap (λ (l : List ℕ). length l) c.data-dense.ensures in let sparse : length c.sparse_data-sparse.result.now ≡ length (bytes_or_none state.hll.sparse_data) = ap (λ (l : List ℕ). length l) c.sparse_data-sparse.ensures in omega (arith, dense, sparse, c.if-out-dense.false, c.if-out-dense-2.false)
+encoded_len-requires c =
+    let state : State = state_of c.args.bytes.now c.args.f in
+    let dense : length c.data-dense.result.now ≡ length (bytes_or_none state.hll.«data») = ap (λ (l : List ℕ). length l) c.data-dense.ensures in
+    let sparse : length c.sparse_data-sparse.result.now ≡ length (bytes_or_none state.hll.sparse_data) = ap (λ (l : List ℕ). length l) c.sparse_data-sparse.ensures in
+    omega (arith, dense, sparse, c.if-out-dense.false, c.if-out-dense-2.false)
 
 pub returns-then-out-encoded_len : goal.returns-then-out-encoded_len
-returns-then-out-encoded_len c = let state : State = state_of c.args.bytes.now c.args.f in encode_short state c.args.out.now (omega (arith, c.encoded_len.ensures, c.if-out-encoded_len.true))
+returns-then-out-encoded_len c =
+    let state : State = state_of c.args.bytes.now c.args.f in
+    encode_short state c.args.out.now (omega (arith, c.encoded_len.ensures, c.if-out-encoded_len.true))
 
 pub returns : goal.returns
-returns c = let state : State = state_of c.args.bytes.now c.args.f in encode_written state c.args.out.now c.put_state.result _ (omega (arith, c.encoded_len.ensures, c.if-out-encoded_len.false)) c.put_state.ensures
+returns c =
+    let state : State = state_of c.args.bytes.now c.args.f in
+    encode_written state c.args.out.now c.put_state.result _ (omega (arith, c.encoded_len.ensures, c.if-out-encoded_len.false)) c.put_state.ensures

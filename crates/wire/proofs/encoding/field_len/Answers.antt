@@ -5,7 +5,6 @@ use Prim.Native.Nat.{ℕ, ◌+◌}
 use native.Mathlib.Omega.{arith}
 use lib.ListN.{length}
 use Rattle.wire.proofs.EncodingLaws.{field_absent, field_present, prefix_le, two_length}
-use borrow.Author.Rules.{rules}
 use Rattle.std.proofs.lemmas.Bool.{not_from_false, not_from_true}
 use Rattle.wire.proofs.encoding.field_len.Goals as goal
 

@@ -7,17 +7,30 @@ use lib.ListN.{length}
 use Rattle.wire.specs.State.{State, state_of}
 use Rattle.wire.specs.Encoding.{outer_numbers}
 use Rattle.wire.proofs.EncodingLaws.{hll_head_le, head_length, prefix_le, outer_numbers_le, outer_numbers_any}
-use borrow.Author.Rules.{rules}
 use Rattle.wire.proofs.encoding.head_len.Goals as goal
 
 pub nested_len-nested-requires : goal.nested_len-nested-requires
-nested_len-nested-requires c = let state : State = state_of c.args.bytes.now c.args.f in let len : ℕ = c.args.f.hll.sparse_data.len in omega (arith, hll_head_le state.hll len, c.requires)
+nested_len-nested-requires c =
+    let state : State = state_of c.args.bytes.now c.args.f in
+    let len : ℕ = c.args.f.hll.sparse_data.len in
+    omega (arith, hll_head_le state.hll len, c.requires)
 
 pub overflow_add-result : goal.overflow_add-result
-overflow_add-result c = let state : State = state_of c.args.bytes.now c.args.f in let outer : (r : ℕ) → r ≡ length (outer_numbers (state_of [] c.args.f)) → r ≡ length (outer_numbers state) = λ r. λ e. e ∙ ap (λ (l : List ℕ). length l) (outer_numbers_any c.args.bytes.now c.args.f) in omega (arith, outer c.outer_numbers_len.result c.outer_numbers_len.ensures, outer_numbers_le state, c.prefix_len.ensures, prefix_le 112 c.nested_len-nested.result)
+overflow_add-result c =
+    let state : State = state_of c.args.bytes.now c.args.f in
+    let outer : (r : ℕ) → r ≡ length (outer_numbers (state_of [] c.args.f)) → r ≡ length (outer_numbers state) = λ r. λ e. e ∙ ap (λ (l : List ℕ). length l) (outer_numbers_any c.args.bytes.now c.args.f) in
+    omega (arith, outer c.outer_numbers_len.result c.outer_numbers_len.ensures, outer_numbers_le state, c.prefix_len.ensures, prefix_le 112 c.nested_len-nested.result)
 
 pub overflow_add-result-2 : goal.overflow_add-result-2
-overflow_add-result-2 c = let state : State = state_of c.args.bytes.now c.args.f in let len : ℕ = c.args.f.hll.sparse_data.len in let outer : (r : ℕ) → r ≡ length (outer_numbers (state_of [] c.args.f)) → r ≡ length (outer_numbers state) = λ r. λ e. e ∙ ap (λ (l : List ℕ). length l) (outer_numbers_any c.args.bytes.now c.args.f) in omega (arith, outer c.outer_numbers_len.result c.outer_numbers_len.ensures, outer_numbers_le state, c.prefix_len.ensures, prefix_le 112 c.nested_len-nested.result, c.nested_len-nested.ensures, hll_head_le state.hll len, c.requires)
+overflow_add-result-2 c =
+    let state : State = state_of c.args.bytes.now c.args.f in
+    let len : ℕ = c.args.f.hll.sparse_data.len in
+    let outer : (r : ℕ) → r ≡ length (outer_numbers (state_of [] c.args.f)) → r ≡ length (outer_numbers state) = λ r. λ e. e ∙ ap (λ (l : List ℕ). length l) (outer_numbers_any c.args.bytes.now c.args.f) in
+    omega (arith, outer c.outer_numbers_len.result c.outer_numbers_len.ensures, outer_numbers_le state, c.prefix_len.ensures, prefix_le 112 c.nested_len-nested.result, c.nested_len-nested.ensures, hll_head_le state.hll len, c.requires)
 
 pub returns : goal.returns
-returns c = let state : State = state_of c.args.bytes.now c.args.f in let len : ℕ = c.args.f.hll.sparse_data.len in let outer : (r : ℕ) → r ≡ length (outer_numbers (state_of [] c.args.f)) → r ≡ length (outer_numbers state) = λ r. λ e. e ∙ ap (λ (l : List ℕ). length l) (outer_numbers_any c.args.bytes.now c.args.f) in omega (arith, outer c.outer_numbers_len.result c.outer_numbers_len.ensures, c.prefix_len.ensures, c.nested_len-nested.ensures, head_length state len c.nested_len-nested.result c.nested_len-nested.ensures)
+returns c =
+    let state : State = state_of c.args.bytes.now c.args.f in
+    let len : ℕ = c.args.f.hll.sparse_data.len in
+    let outer : (r : ℕ) → r ≡ length (outer_numbers (state_of [] c.args.f)) → r ≡ length (outer_numbers state) = λ r. λ e. e ∙ ap (λ (l : List ℕ). length l) (outer_numbers_any c.args.bytes.now c.args.f) in
+    omega (arith, outer c.outer_numbers_len.result c.outer_numbers_len.ensures, c.prefix_len.ensures, c.nested_len-nested.ensures, head_length state len c.nested_len-nested.result c.nested_len-nested.ensures)

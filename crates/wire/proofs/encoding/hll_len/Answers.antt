@@ -7,16 +7,17 @@ use lib.ListN.{length, take, drop}
 use Rattle.wire.specs.State.{state_of}
 use Rattle.wire.specs.Encoding.{bytes_field}
 use Rattle.wire.proofs.EncodingLaws.{hll_numbers_le, hll_start_length, hll_length, field_le, field_bytes}
-use borrow.Author.Rules.{rules}
 use Rattle.wire.proofs.encoding.hll_len.Goals as goal
 
 pub overflow_add-result : goal.overflow_add-result
-overflow_add-result c = let field : c.field_len.result ≡ length (bytes_field 6 (state_of c.args.bytes.now c.args.f).hll.sparse_data) = let p = c.args.f.hll.sparse_data in
+overflow_add-result c =
+    let field : c.field_len.result ≡ length (bytes_field 6 (state_of c.args.bytes.now c.args.f).hll.sparse_data) = let p = c.args.f.hll.sparse_data in
     c.field_len.ensures
     ∙ ap (λ (l : List ℕ). length l) (field_bytes 6 c.args.f.hll.sparse_data_present (take p.len (drop p.start c.args.bytes.now)) _ c.sparse_data.ensures) in let h = (state_of c.args.bytes.now c.args.f).hll in
     omega (arith, c.hll_start_len.ensures, field, hll_start_length h, hll_numbers_le h, field_le 5 h.«data», field_le 6 h.sparse_data)
 
 pub returns : goal.returns
-returns c = let field : c.field_len.result ≡ length (bytes_field 6 (state_of c.args.bytes.now c.args.f).hll.sparse_data) = let p = c.args.f.hll.sparse_data in
+returns c =
+    let field : c.field_len.result ≡ length (bytes_field 6 (state_of c.args.bytes.now c.args.f).hll.sparse_data) = let p = c.args.f.hll.sparse_data in
     c.field_len.ensures
     ∙ ap (λ (l : List ℕ). length l) (field_bytes 6 c.args.f.hll.sparse_data_present (take p.len (drop p.start c.args.bytes.now)) _ c.sparse_data.ensures) in ap₂ (λ (x y : ℕ). x + y) c.hll_start_len.ensures field ∙ sym (hll_length (state_of c.args.bytes.now c.args.f).hll)

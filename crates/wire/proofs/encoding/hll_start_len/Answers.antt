@@ -7,16 +7,19 @@ use mathlib.Core.Path.{◌≡◌, ap, ap₂, ◌∙◌, sym}
 use Prim.Native.Nat.{ℕ, ◌+◌}
 use lib.ListN.{length, take, drop}
 use Rattle.wire.specs.Encoding.{bytes_field, hll_numbers}
-use borrow.Author.Rules.{rules}
 use Rattle.wire.proofs.encoding.hll_start_len.Goals as goal
 
 pub overflow_add-result : goal.overflow_add-result
-overflow_add-result c = let numbers : c.hll_numbers_len.result ≡ length (hll_numbers (state_of c.args.bytes.now c.args.f).hll) = c.hll_numbers_len.ensures ∙ ap (λ (l : List ℕ). length l) (hll_numbers_any c.args.bytes.now c.args.f.hll) in let field : c.field_len.result ≡ length (bytes_field 5 (state_of c.args.bytes.now c.args.f).hll.«data») = let p = c.args.f.hll.«data» in
+overflow_add-result c =
+    let numbers : c.hll_numbers_len.result ≡ length (hll_numbers (state_of c.args.bytes.now c.args.f).hll) = c.hll_numbers_len.ensures ∙ ap (λ (l : List ℕ). length l) (hll_numbers_any c.args.bytes.now c.args.f.hll) in
+    let field : c.field_len.result ≡ length (bytes_field 5 (state_of c.args.bytes.now c.args.f).hll.«data») = let p = c.args.f.hll.«data» in
     c.field_len.ensures
     ∙ ap (λ (l : List ℕ). length l) (field_bytes 5 c.args.f.hll.data_present (take p.len (drop p.start c.args.bytes.now)) _ c.«data».ensures) in let h = (state_of c.args.bytes.now c.args.f).hll in
     omega (arith, numbers, field, hll_numbers_le h, field_le 5 h.«data», part_le c.args.bytes.now c.args.f.hll.data_present c.args.f.hll.«data»)
 
 pub returns : goal.returns
-returns c = let numbers : c.hll_numbers_len.result ≡ length (hll_numbers (state_of c.args.bytes.now c.args.f).hll) = c.hll_numbers_len.ensures ∙ ap (λ (l : List ℕ). length l) (hll_numbers_any c.args.bytes.now c.args.f.hll) in let field : c.field_len.result ≡ length (bytes_field 5 (state_of c.args.bytes.now c.args.f).hll.«data») = let p = c.args.f.hll.«data» in
+returns c =
+    let numbers : c.hll_numbers_len.result ≡ length (hll_numbers (state_of c.args.bytes.now c.args.f).hll) = c.hll_numbers_len.ensures ∙ ap (λ (l : List ℕ). length l) (hll_numbers_any c.args.bytes.now c.args.f.hll) in
+    let field : c.field_len.result ≡ length (bytes_field 5 (state_of c.args.bytes.now c.args.f).hll.«data») = let p = c.args.f.hll.«data» in
     c.field_len.ensures
     ∙ ap (λ (l : List ℕ). length l) (field_bytes 5 c.args.f.hll.data_present (take p.len (drop p.start c.args.bytes.now)) _ c.«data».ensures) in ap₂ (λ (x y : ℕ). x + y) numbers field ∙ sym (hll_start_length (state_of c.args.bytes.now c.args.f).hll)

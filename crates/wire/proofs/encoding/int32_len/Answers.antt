@@ -5,7 +5,6 @@ use Prim.Native.Nat.{ℕ}
 use lib.ListN.{length}
 use Rattle.wire.proofs.EncodingLaws.{int32_none, int32_is}
 use Rattle.wire.specs.Encoding.{number_field}
-use borrow.Author.Rules.{rules}
 use Rattle.wire.proofs.encoding.int32_len.Goals as goal
 
 pub returns-then-v-omitted : goal.returns-then-v-omitted

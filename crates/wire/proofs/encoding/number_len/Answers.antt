@@ -1,7 +1,6 @@
 -- The lengths of the tag and of the value, at most 10 each, add up to the field's.
 use native.Mathlib.Omega.{arith}
 use Rattle.wire.proofs.EncodingLaws.{two_length, number_is, number_le}
-use borrow.Author.Rules.{rules}
 use Rattle.wire.proofs.encoding.number_len.Goals as goal
 
 pub overflow_add-result : goal.overflow_add-result

@@ -1,7 +1,6 @@
 -- The lengths of the tag and of the length, at most 10 each, add up to the prefix's.
 use native.Mathlib.Omega.{arith}
 use Rattle.wire.proofs.EncodingLaws.{two_length, prefix_is, prefix_le}
-use borrow.Author.Rules.{rules}
 use Rattle.wire.proofs.encoding.prefix_len.Goals as goal
 
 pub overflow_add-result : goal.overflow_add-result

@@ -1,6 +1,4 @@
-use Rattle.wire.proofs.EncodingLaws.{Copied, copied_none, copied_more, copied_all}
-use Prim.Native.Nat.{◌+◌, ◌-◌, ◌≤◌}
-use lib.ListN.{length}
+use Rattle.wire.proofs.EncodingLaws.{copied_none, copied_more, copied_all}
 use borrow.Author.Rules.{rules}
 use Rattle.wire.proofs.encoding.put_bytes.Goals as goal
 

@@ -1,8 +1,7 @@
 -- The loop's invariant: putting the bytes that are left gives what putting all of them gives (`Copied`).
-use Rattle.wire.proofs.EncodingLaws.{Copied, copied_none, copied_more, copied_all}
+use Rattle.wire.proofs.EncodingLaws.{Copied}
 use Prim.Native.Nat.{◌+◌, ◌-◌, ◌≤◌}
 use lib.ListN.{length}
-use borrow.Author.Rules.{rules}
 use Rattle.wire.proofs.encoding.put_bytes.Given as goal
 
 abbrev pub invariant-loop-i : goal.invariant-loop-i

@@ -1,6 +1,5 @@
 -- An absent field puts nothing; a present one its prefix and then its bytes.
 use Rattle.wire.proofs.EncodingLaws.{first_room, next_room, put_both, put_none, field_absent, field_present}
-use borrow.Author.Rules.{rules}
 use Rattle.std.proofs.lemmas.Bool.{not_from_false, not_from_true}
 use Rattle.wire.proofs.encoding.put_field.Goals as goal
 

@@ -1,6 +1,5 @@
 -- The tag is put, and then the value.
 use Rattle.wire.proofs.EncodingLaws.{first_room, next_room, put_both, number_is}
-use borrow.Author.Rules.{rules}
 use Rattle.wire.proofs.encoding.put_number.Goals as goal
 
 pub put_varint-next-requires : goal.put_varint-next-requires

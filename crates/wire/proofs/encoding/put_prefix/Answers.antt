@@ -1,6 +1,5 @@
 -- The tag is put, and then the length.
 use Rattle.wire.proofs.EncodingLaws.{first_room, next_room, put_both, prefix_is}
-use borrow.Author.Rules.{rules}
 use Rattle.wire.proofs.encoding.put_prefix.Goals as goal
 
 pub put_varint-next-requires : goal.put_varint-next-requires

@@ -6,19 +6,30 @@ use lib.ListN.{length, take, drop}
 use Rattle.wire.specs.State.{State, state_of, when_present}
 use Rattle.wire.specs.Encoding.{bytes_field, start_of, encode_of}
 use Rattle.wire.proofs.EncodingLaws.{Two, two_length, front_room, next_room, put_both, put_same, same_room, encode_is, encode_ge, field_bytes}
-use borrow.Author.Rules.{rules}
 use Rattle.wire.proofs.encoding.put_state.Goals as goal
 
 pub hll_len-nested-requires : goal.hll_len-nested-requires
-hll_len-nested-requires c = let state : State = state_of c.args.bytes.now c.args.f in omega (arith, encode_ge state, c.requires)
+hll_len-nested-requires c =
+    let state : State = state_of c.args.bytes.now c.args.f in
+    omega (arith, encode_ge state, c.requires)
 
 pub put_start-at-requires : goal.put_start-at-requires
-put_start-at-requires c = let state : State = state_of c.args.bytes.now c.args.f in let parts : Two (encode_of state) (start_of state c.hll_len-nested.result) (bytes_field 6 state.hll.sparse_data) = encode_is state c.hll_len-nested.result c.hll_len-nested.ensures in omega (arith, two_length parts, c.requires)
+put_start-at-requires c =
+    let state : State = state_of c.args.bytes.now c.args.f in
+    let parts : Two (encode_of state) (start_of state c.hll_len-nested.result) (bytes_field 6 state.hll.sparse_data) = encode_is state c.hll_len-nested.result c.hll_len-nested.ensures in
+    omega (arith, two_length parts, c.requires)
 
 pub put_field-requires : goal.put_field-requires
-put_field-requires c = let state : State = state_of c.args.bytes.now c.args.f in let parts : Two (encode_of state) (start_of state c.hll_len-nested.result) (bytes_field 6 state.hll.sparse_data) = encode_is state c.hll_len-nested.result c.hll_len-nested.ensures in let room : 0 + length (encode_of state) ≤ length c.args.out.now = front_room c.args.out.now (encode_of state) c.requires in let field : bytes_field 6 (when_present c.args.f.hll.sparse_data_present c.sparse_data.result.now) ≡ bytes_field 6 state.hll.sparse_data = let p = c.args.f.hll.sparse_data in
+put_field-requires c =
+    let state : State = state_of c.args.bytes.now c.args.f in
+    let parts : Two (encode_of state) (start_of state c.hll_len-nested.result) (bytes_field 6 state.hll.sparse_data) = encode_is state c.hll_len-nested.result c.hll_len-nested.ensures in
+    let room : 0 + length (encode_of state) ≤ length c.args.out.now = front_room c.args.out.now (encode_of state) c.requires in
+    let field : bytes_field 6 (when_present c.args.f.hll.sparse_data_present c.sparse_data.result.now) ≡ bytes_field 6 state.hll.sparse_data = let p = c.args.f.hll.sparse_data in
     field_bytes 6 c.args.f.hll.sparse_data_present (take p.len (drop p.start c.args.bytes.now)) _ c.sparse_data.ensures in same_room c.put_start-at.new.out c.put_start-at.result _ _ (sym field) (next_room parts c.put_start-at.ensures room)
 
 pub returns : goal.returns
-returns c = let state : State = state_of c.args.bytes.now c.args.f in let parts : Two (encode_of state) (start_of state c.hll_len-nested.result) (bytes_field 6 state.hll.sparse_data) = encode_is state c.hll_len-nested.result c.hll_len-nested.ensures in let field : bytes_field 6 (when_present c.args.f.hll.sparse_data_present c.sparse_data.result.now) ≡ bytes_field 6 state.hll.sparse_data = let p = c.args.f.hll.sparse_data in
+returns c =
+    let state : State = state_of c.args.bytes.now c.args.f in
+    let parts : Two (encode_of state) (start_of state c.hll_len-nested.result) (bytes_field 6 state.hll.sparse_data) = encode_is state c.hll_len-nested.result c.hll_len-nested.ensures in
+    let field : bytes_field 6 (when_present c.args.f.hll.sparse_data_present c.sparse_data.result.now) ≡ bytes_field 6 state.hll.sparse_data = let p = c.args.f.hll.sparse_data in
     field_bytes 6 c.args.f.hll.sparse_data_present (take p.len (drop p.start c.args.bytes.now)) _ c.sparse_data.ensures in put_both parts c.put_start-at.ensures (put_same field c.put_field.ensures)

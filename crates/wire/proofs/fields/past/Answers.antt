@@ -1,6 +1,5 @@
 -- By cases on what was taken, as `past_of` is.
 use mathlib.Core.Path.{sym, ap}
-use borrow.Author.Rules.{rules}
 use Rattle.wire.specs.Fields.{past_of}
 use Rattle.wire.proofs.ReadingLaws.{past_refused}
 use Rattle.wire.proofs.fields.past.Goals as goal

@@ -1,6 +1,5 @@
 -- Past a varint that was read is past the field. One that cannot be read is refused by its own number.
 use borrow.Enum.Refused.{opened}
-use borrow.Author.Rules.{rules}
 use Rattle.wire.proofs.ReadingLaws.{skip_varint_refused, skip_varint_past}
 use Rattle.wire.proofs.fields.skip_varint.Goals as goal
 

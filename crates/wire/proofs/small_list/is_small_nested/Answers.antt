@@ -3,11 +3,9 @@ use Prim.Native.Nat.{◌+◌}
 use mathlib.Core.Path.{subst}
 use native.Mathlib.Omega.{arith}
 use lib.ListN.{get_or}
-use borrow.Author.Rules.{rules}
-use borrow.Author.Tests.{not-false, eqb-true}
+use borrow.Author.Tests.{eqb-true}
 use Rattle.wire.specs.SmallList.{NestedTagsPost}
 use Rattle.wire.proofs.SmallListLaws.{or_five, start_near, small_asked}
-use Rattle.std.proofs.lemmas.Bool.{not_from_true}
 use Rattle.wire.proofs.small_list.is_small_nested.Goals as goal
 
 pub overflow_add-at : goal.overflow_add-at

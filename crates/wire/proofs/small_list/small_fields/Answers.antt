@@ -1,7 +1,6 @@
 -- The fields are those of the definition; a byte fits every number.
 use Prim.Native.Nat.{◌+◌}
 use native.Mathlib.Omega.{arith}
-use borrow.Author.Rules.{rules}
 use Rattle.wire.proofs.small_list.small_fields.Goals as goal
 
 pub overflow_cast-hll : goal.overflow_cast-hll

@@ -1,6 +1,5 @@
 -- The definition reads the same varint and sets the same number. A varint that cannot be read is refused by its own number.
 use borrow.Enum.Refused.{opened}
-use borrow.Author.Rules.{rules}
 use Rattle.wire.proofs.ReadingLaws.{varint_refused}
 use Rattle.wire.proofs.StateLaws.{hll_refused, hll_number_read}
 use Rattle.wire.proofs.state.hll_number.Goals as goal

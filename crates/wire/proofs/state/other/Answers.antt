@@ -1,5 +1,4 @@
 -- A field that is skipped changes nothing that was read: only the position moves on.
-use borrow.Author.Rules.{rules}
 use Rattle.wire.proofs.ReadingLaws.{not_skipped}
 use Rattle.wire.proofs.StateLaws.{step_refused, step_skipped}
 use Rattle.wire.proofs.state.other.Goals as goal

@@ -1,5 +1,4 @@
 -- Where a quick reader answers, it answers as `parse` must. Everything else is left to the general reader.
-use borrow.Author.Rules.{rules}
 use Rattle.wire.proofs.state.parse.Goals as goal
 
 pub returns : goal.returns

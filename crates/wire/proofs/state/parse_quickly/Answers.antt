@@ -1,5 +1,4 @@
 -- Both readers answer as `parse` must, where they answer.
-use borrow.Author.Rules.{rules}
 use Rattle.wire.proofs.state.parse_quickly.Goals as goal
 
 pub returns : goal.returns

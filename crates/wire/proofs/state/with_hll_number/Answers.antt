@@ -1,6 +1,5 @@
 -- The tag picks the number that is set, and the other fields stay as they were.
 use borrow.Author.Tests.{ne_eqb}
-use borrow.Author.Rules.{rules}
 use Rattle.wire.proofs.state.with_hll_number.Goals as goal
 
 pub returns-in-16 : goal.returns-in-16

@@ -1,6 +1,5 @@
-use Prim.Native.Nat.{◌-◌}
 use borrow.Author.Rules.{rules}
-use Rattle.wire.proofs.VarintLaws.{Reading, reading_none, reading_cut, reading_long, reading_last, reading_more}
+use Rattle.wire.proofs.VarintLaws.{reading_none, reading_cut, reading_long, reading_last, reading_more}
 use Rattle.wire.proofs.varint.long_varint.Goals as goal
 
 pub loop-n-init : goal.loop-n-init

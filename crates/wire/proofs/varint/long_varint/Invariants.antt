@@ -1,7 +1,6 @@
 -- The payloads read so far, each at its weight, and what the rest reads as make up the varint (`Reading`): each turn moves one payload over.
 use Prim.Native.Nat.{◌-◌}
-use borrow.Author.Rules.{rules}
-use Rattle.wire.proofs.VarintLaws.{Reading, reading_none, reading_cut, reading_long, reading_last, reading_more}
+use Rattle.wire.proofs.VarintLaws.{Reading}
 use Rattle.wire.proofs.varint.long_varint.Given as goal
 
 abbrev pub invariant-loop-n : goal.invariant-loop-n

@@ -1,13 +1,11 @@
 -- Each turn puts the lowest seven bits, so what was put and the bytes of what is left make up the whole (`Left`). What is left has
 -- a byte or more, so there is room for the next.
-use Prim.Native.Nat.{◌+◌, ◌≤◌, ◌<◌}
-use mathlib.Core.Path.{◌≡◌, refl}
-use native.Mathlib.Omega.{arith}
-use lib.ListN.{length, length-set}
+use Prim.Native.Nat.{◌+◌, ◌≤◌}
+use mathlib.Core.Path.{◌≡◌}
+use lib.ListN.{length}
 use lib.Seq.{sets}
-use borrow.Author.Rules.{rules}
 use Rattle.wire.specs.Varints.{varint_bytes}
-use Rattle.wire.proofs.VarintLaws.{len_pos, Left, left_more, left_last}
+use Rattle.wire.proofs.VarintLaws.{Left}
 use Rattle.wire.proofs.varint.put_varint.Given as goal
 
 abbrev pub invariant-loop-v : goal.invariant-loop-v

@@ -1,6 +1,6 @@
 use native.Mathlib.Omega.{arith}
 use borrow.Author.Rules.{rules}
-use Rattle.wire.proofs.VarintLaws.{Counted, counted_none, counted_more, counted_le, counted_last}
+use Rattle.wire.proofs.VarintLaws.{counted_none, counted_more, counted_le, counted_last}
 use Rattle.wire.proofs.varint.varint_len_64.Goals as goal
 
 pub loop-rest-init : goal.loop-rest-init

@@ -1,7 +1,5 @@
 -- Each turn takes seven bits off and counts a byte, so the count and the bytes of what is left make up the whole (`Counted`).
-use native.Mathlib.Omega.{arith}
-use borrow.Author.Rules.{rules}
-use Rattle.wire.proofs.VarintLaws.{Counted, counted_none, counted_more, counted_le, counted_last}
+use Rattle.wire.proofs.VarintLaws.{Counted}
 use Rattle.wire.proofs.varint.varint_len_64.Given as goal
 
 abbrev pub invariant-loop-rest : goal.invariant-loop-rest

@@ -1,6 +1,5 @@
 -- `Sparse::new` meets its contract: a one shifted to the larger of s and p + 6 is the mark, which is below 2^31.
 use Rattle.lists.proofs.ValueLaws.{new_post}
-use Rattle.std.proofs.Common.{rules}
 use Rattle.lists.proofs.values.Sparse.new.Goals as goal
 
 pub returns : goal.returns

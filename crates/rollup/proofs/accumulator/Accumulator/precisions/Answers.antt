@@ -1,5 +1,5 @@
 -- By the form, as the definition has it.
-use Rattle.std.proofs.Common.{sym, ap, rules}
+use Rattle.std.proofs.Common.{sym, ap}
 use Rattle.rollup.specs.declared.accumulator.Form.{Form}
 use Rattle.rollup.specs.Accumulator.{precisions_of}
 use Rattle.rollup.proofs.accumulator.Accumulator.precisions.Goals as goal
