@@ -7,7 +7,6 @@ use mathlib.Core.Logic.{inl, inr}
 use Prim.Native.Nat.{ℕ, zero, suc, ◌+◌, ◌*◌, ◌-◌, ◌/◌, ◌<◌, ◌≤◌}
 use native.Mathlib.Numerals.{add-one}
 use native.Mathlib.Omega.{arith}
-use denote.Enum.Declared as E
 use lib.Dec.{eqb, ltb}
 use lib.ListN.{length, take, drop, length-append, drop_of_length-le, take-append-drop, length-drop}
 use lib.Seq.{length-take-le, take_at, drop-cons, drop-drop}
@@ -16,23 +15,9 @@ use borrow.Author.Tests.{eq-eqb, ne_eqb}
 use Rattle.std.specs.Counts.{IsPrefixLen}
 use Rattle.console.specs.declared.input.Bytes.{Bytes}
 use Rattle.console.specs.declared.input.Bytes.TheVariants.{Count, Other}
-use Rattle.console.specs.declared.input.Number.{Number}
-use Rattle.console.specs.declared.input.Number.TheVariants.{Value, Other as NumberOther}
-use Rattle.console.specs.Input.{up_to, digit_of, byte_then, cons_to, onto, decimal_of, below64, hex_of, number_means, BytesPost}
-use Rattle.console.specs.contracts.input.Bytes.{enum as bytes-enum}
-use Rattle.console.specs.contracts.input.Number.{enum as number-enum}
+use Rattle.console.specs.Input.{up_to, digit_of, byte_then, cons_to, onto, decimal_of, below64, hex_of, BytesPost}
 use Rattle.console.proofs.InputLaws.{not_some}
 use Rattle.roll_cases.specs.Expanding.{joined, times_of, times, times_by, word_bytes, words_bytes, line_bytes, Expands}
-
--- ---- what the other tag of an answer says
-
-pub no_bytes : (r : Bytes) → E.tag_of (E.declared bytes-enum) r ≡ 1 → r ≡ Other
-no_bytes (Count n) h = absurd (let z : ⊥ = omega arith in z)
-no_bytes Other h = refl
-
-pub no_number : (r : Number) → E.tag_of (E.declared number-enum) r ≡ 1 → none ≡ number_means r
-no_number (Value v) h = absurd (let z : ⊥ = omega arith in z)
-no_number NumberOther h = refl
 
 -- ---- byte strings, or none
 

@@ -1,0 +1,6 @@
+-- `write_case` is safe: what is written lies inside the output.
+use Rattle.rollup_cases.proofs.Laws.{written_inside}
+use Rattle.rollup_cases.proofs.write_case.Goals as goal
+
+pub print_written-requires : goal.print_written-requires
+print_written-requires c = written_inside _ _ _ _ c.write-r.result _ _ c.write-r.ensures
