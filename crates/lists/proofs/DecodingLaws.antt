@@ -17,6 +17,7 @@ use Rattle.lists.specs.declared.decoding.Decoded.TheVariants.{Done, Refused}
 use Rattle.lists.specs.Values.{mark, marked, marked_end, least_marked_rank, marked_rank_fits, valid, Pair}
 use Rattle.lists.specs.Sorting.{not_before, ascends}
 use Rattle.lists.specs.Lists.{gap_answer, gap_of, GapPost, gap_refusal, refused_here, before, sums_of, step_of, step_refusal, NextValuePost, all_valid, no_plain, later_plain, ends_valid, decode_of, Decodes, encode_from, encode_list, written_from, written}
+use Rattle.lists.proofs.UnfitRank.{unfit_rank}
 use Rattle.lists.proofs.ValueLaws.{decided, mark_64, mark_index, plain_end_mark, least_le, above_mark, small_valid, valid_plain, valid_index, valid_fits, marked_near, marked_fitting, valid_lt}
 
 -- ---- a gap
@@ -61,16 +62,13 @@ or_left : (a b : Bool) → (a || b) ≡ false → a ≡ false
 or_left true b e = e
 or_left false b e = refl
 
-or_yes : (a b : Bool) → a ≡ true → true ≡ (a || b)
-or_yes a b e = sym (ap (λ (t : Bool). t || b) e)
-
 -- What is refused where it is read, by the code's questions.
 module _ (p s last v : ℕ) where
   abbrev unfit : Bool
-  unfit = not (marked_rank_fits p s v)
+  unfit = unfit_rank p s v
 
   pub refused_less : v < last → true ≡ refused_here p s last v
-  refused_less h = or_yes (ltb v last) _ (lt-ltb v last h)
+  refused_less h = sym (ap (λ (t : Bool). t || (marked p s v && unfit)) (lt-ltb v last h))
 
   by_rank : last ≤ v → (marked p s v && unfit) ≡ refused_here p s last v
   by_rank h = sym (ap (λ (t : Bool). t || (marked p s v && unfit)) (le-ltb v last h))
@@ -83,7 +81,7 @@ module _ (p s last v : ℕ) where
 
   -- What is not.
   not_less : refused_here p s last v ≡ false → last ≤ v
-  not_less e = ltb-false v last (or_left (ltb v last) _ e)
+  not_less e = ltb-false v last (or_left (ltb v last) (marked p s v && unfit) e)
 
   rank_fits : refused_here p s last v ≡ false → marked p s v ≡ true → marked_rank_fits p s v ≡ true
   rank_fits e m = not-false (marked_rank_fits p s v) (refused_rank (not_less e) m ∙ e)

@@ -1,6 +1,7 @@
 -- The laws of values, lists and registers, each file after those that it needs.
 pub mod CellLaws
 pub mod ValueLaws
+pub mod UnfitRank
 pub mod DecodingLaws
 pub mod CheckingLaws
 pub mod OrderLaws

@@ -18,10 +18,14 @@ pub loop-i-init : goal.loop-i-init
 loop-i-init c = (onto_nothing (hex_of c.args.word.now), refl, refl, search rules, search rules, omega arith, search rules)
 
 pub returns-then-high-eq16 : goal.returns-then-high-eq16
-returns-then-high-eq16 c = let l = c.loop-i in inl (l.invariant.0 ∙ hex_high _ l.i (omega arith) (omega arith) _, refused_free c.args.word.now _ _ l.i (omega arith) l.invariant.1 l.invariant.2)
+returns-then-high-eq16 c =
+    let l = c.loop-i in
+    inl (l.invariant.0 ∙ hex_high _ l.i (omega arith) (omega arith) _, refused_free c.args.word.now _ _ l.i (omega arith) l.invariant.1 l.invariant.2)
 
 pub returns-then-low-eq16 : goal.returns-then-low-eq16
-returns-then-low-eq16 c = let l = c.loop-i in inl (l.invariant.0 ∙ hex_low _ l.i (omega arith) (omega arith) _, refused_free c.args.word.now _ _ l.i (omega arith) l.invariant.1 l.invariant.2)
+returns-then-low-eq16 c =
+    let l = c.loop-i in
+    inl (l.invariant.0 ∙ hex_low _ l.i (omega arith) (omega arith) _, refused_free c.args.word.now _ _ l.i (omega arith) l.invariant.1 l.invariant.2)
 
 pub loop-i-preserved : goal.loop-i-preserved
 loop-i-preserved c = let l = c.loop-i in (

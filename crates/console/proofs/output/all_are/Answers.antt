@@ -8,10 +8,16 @@ pub loop-i-init : goal.loop-i-init
 loop-i-init c = (refl, search rules)
 
 pub returns-then-s-i : goal.returns-then-s-i
-returns-then-s-i c = let l = c.loop-i in let o = c.args in sym (l.invariant.0 ∙ all_not o.s.now o.b l.i c.loop-i-test.true c.if-s-i.true)
+returns-then-s-i c =
+    let l = c.loop-i in
+    let o = c.args in
+    sym (l.invariant.0 ∙ all_not o.s.now o.b l.i c.loop-i-test.true c.if-s-i.true)
 
 pub loop-i-preserved : goal.loop-i-preserved
-loop-i-preserved c = let l = c.loop-i in let o = c.args in (l.invariant.0 ∙ all_more o.s.now o.b l.i c.loop-i-test.true (search rules), omega arith)
+loop-i-preserved c =
+    let l = c.loop-i in
+    let o = c.args in
+    (l.invariant.0 ∙ all_more o.s.now o.b l.i c.loop-i-test.true (search rules), omega arith)
 
 pub returns : goal.returns
 returns c = let l = c.loop-i in let o = c.args in sym (l.invariant.0 ∙ all_end o.s.now o.b l.i (search rules))

@@ -17,7 +17,9 @@ pub bounds-out-at-in-loop-i : goal.bounds-out-at-in-loop-i
 bounds-out-at-in-loop-i c = simp length-set (omega arith)
 
 pub loop-i-preserved : goal.loop-i-preserved
-loop-i-preserved c = let l = c.loop-i in (spelling_more _ _ l.out l.at l.i c.glyph.result c.glyph-in-loop-i.result c.loop-i-test.true l.invariant.1 c.glyph.ensures c.glyph-in-loop-i.ensures l.invariant.0, l.invariant.1)
+loop-i-preserved c =
+    let l = c.loop-i in
+    (spelling_more _ _ l.out l.at l.i c.glyph.result c.glyph-in-loop-i.result c.loop-i-test.true l.invariant.1 c.glyph.ensures c.glyph-in-loop-i.ensures l.invariant.0, l.invariant.1)
 
 pub returns : goal.returns
 returns c = let l = c.loop-i in spelling_end _ _ l.out l.at l.i (search rules) l.invariant.1 l.invariant.0

@@ -12,10 +12,16 @@ pub slice_bounds-put_answers-end-2 : goal.slice_bounds-put_answers-end-2
 slice_bounds-put_answers-end-2 c = sym (length-take-le c.args.r.rolled.records c.args.answers.now c.requires.records_in)
 
 pub put_answers-lines-requires : goal.put_answers-lines-requires
-put_answers-lines-requires c = let size = length-take-le c.args.r.rolled.records c.args.answers.now c.requires.records_in in let few = c.requires.records_few in (omega (arith), omega arith)
+put_answers-lines-requires c =
+    let size = length-take-le c.args.r.rolled.records c.args.answers.now c.requires.records_in in
+    let few = c.requires.records_few in
+    (omega (arith), omega arith)
 
 pub put_ending-chain-requires : goal.put_ending-chain-requires
-put_ending-chain-requires c = let size = length-take-le c.args.r.rolled.records c.args.answers.now c.requires.records_in in let few = c.requires.records_few in (omega (arith, c.put_answers-lines.ensures.1), omega arith)
+put_ending-chain-requires c =
+    let size = length-take-le c.args.r.rolled.records c.args.answers.now c.requires.records_in in
+    let few = c.requires.records_few in
+    (omega (arith, c.put_answers-lines.ensures.1), omega arith)
 
 pub put_numbers-numbers-requires : goal.put_numbers-numbers-requires
 put_numbers-numbers-requires c = omega (arith, c.put_answers-lines.ensures.1, length-take-le c.args.r.rolled.records c.args.answers.now c.requires.records_in, c.requires.records_few, c.put_ending-chain.ensures.next, ending_length c.args.r.rolled.ending c.args.r.rolled.records)

@@ -16,7 +16,9 @@ returns-in_default c = let l = c.loop-left in
     λ h w. omega (arith, l.invariant.1, times_refused c.args.piece.now l.out c.read_bytes-r.new.out l.at l.left c.read_bytes-r.result l.invariant.0 c.loop-left-test.true c.read_bytes-r.auto.out c.read_bytes-r.ensures c.in_default.is h (sym l.invariant.2 ∙ w))
 
 pub overflow_add-at : goal.overflow_add-at
-overflow_add-at c = let l = c.loop-left in omega (arith, (times_turn c.args.piece.now l.out c.read_bytes-r.new.out l.at l.left c.read_bytes-r.result l.invariant.0 c.loop-left-test.true c.read_bytes-r.auto.out c.read_bytes-r.ensures c.in-Count.k c.in-Count.is).0)
+overflow_add-at c =
+    let l = c.loop-left in
+    omega (arith, (times_turn c.args.piece.now l.out c.read_bytes-r.new.out l.at l.left c.read_bytes-r.result l.invariant.0 c.loop-left-test.true c.read_bytes-r.auto.out c.read_bytes-r.ensures c.in-Count.k c.in-Count.is).0)
 
 pub loop-left-preserved : goal.loop-left-preserved
 loop-left-preserved c = let l = c.loop-left in
