@@ -1,5 +1,5 @@
 //! Lays out the Rust original from the folder that ZETASKETCH_SRC names, compiles it as the library `original`, and links the archive that
-//! `rt lib` in crates/capi wrote.
+//! `bindings/archive` wrote.
 
 use std::env::var;
 use std::path::PathBuf;
@@ -21,9 +21,9 @@ fn main() {
             println!("cargo:rustc-cfg=forms");
             PathBuf::from(folder)
         }
-        Err(_) => here.join("../crates/capi/out"),
+        Err(_) => here.join("../target/staticlib"),
     };
-    assert!(archive.join("libcapi.a").exists(), "crates/capi/out/libcapi.a is not there: `rt lib` in crates/capi writes it");
+    assert!(archive.join("libcapi.a").exists(), "target/staticlib/libcapi.a is not there: `bindings/archive` writes it");
     // The probe goes behind the copy that is made here, so an earlier one is overwritten first.
     run(Command::new(here.join("original/prepare")).arg(&source).arg(out.join("original")));
     run(Command::new(var("RUSTC").expect("a build by cargo"))

@@ -1,4 +1,4 @@
-/* The roll-up of `crates/capi`, for C. `rt lib`, in crates/capi, writes out/libcapi.a there.
+/* The roll-up of `crates/capi`, for C. `bindings/archive` writes target/staticlib/libcapi.a.
  *
  * A roll-up is a head of ten numbers and memory that the caller lends with it: register bytes and three lists, `sparse`, `pending` and `scratch`. The
  * caller keeps all of it between calls and lends it again, or other memory, of any lengths, that holds a copy of what counts: the values kept and waiting

@@ -1,4 +1,4 @@
-//! The roll-up of `crates/capi` for Rust: a safe wrapper around `crates/capi/out/libcapi.a`, which `rt lib` writes there.
+//! The roll-up of `crates/capi` for Rust: a safe wrapper around `target/staticlib/libcapi.a`, which `bindings/archive` writes.
 //!
 //! A [`RollUp`] owns its head and the memory that is lent with it. Answers are the numbers of README.md's table.
 

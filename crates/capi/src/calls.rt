@@ -1,4 +1,4 @@
-// The exported functions. A caller lends all memory; slices must not overlap. An answer is document 01's number: 0, or the first question that was
+// The functions that `capi_c` exports. A caller lends all memory; slices must not overlap. An answer is document 01's number: 0, or the first question that was
 // answered with no.
 ghost use Rattle.std.specs.Prelude.{◌≡◌, length, set};
 ghost use Rattle.rollup.specs.Accumulator.{mem};
@@ -11,8 +11,7 @@ use rollup::accumulator::Accumulator;
 use rollup::writing;
 
 // Puts a fresh head into the row; 1 where it has no ten cells.
-#[unsafe(no_mangle)]
-pub extern "C" fn filmoed_fresh(head: &mut [u64]) -> u8
+pub fn filmoed_fresh(head: &mut [u64]) -> u8
     ensures { FreshPost head.old result head.new }
 {
     if head.len() < 10 {
@@ -23,8 +22,7 @@ pub extern "C" fn filmoed_fresh(head: &mut [u64]) -> u8
 }
 
 // Adds a state: what `rollup::adding::add` promises.
-#[unsafe(no_mangle)]
-pub extern "C" fn filmoed_add(
+pub fn filmoed_add(
     head: &mut [u64],
     registers: &mut [u8],
     sparse: &mut [u32],
@@ -53,8 +51,7 @@ fn put_first(cells: &mut [u64], v: u64)
 }
 
 // Writes a roll-up: `rollup::writing::write`. How many bytes were written is put into the first cell of `len`.
-#[unsafe(no_mangle)]
-pub extern "C" fn filmoed_write(
+pub fn filmoed_write(
     head: &[u64],
     registers: &[u8],
     sparse: &[u32],
@@ -79,8 +76,7 @@ pub extern "C" fn filmoed_write(
 const BAD_ENDS: u8 = 100;
 
 // Adds many states: `states` has them one behind the other, `ends` where each one ends, and `answers` a cell for each answer. These arguments are judged first.
-#[unsafe(no_mangle)]
-pub extern "C" fn filmoed_fold(
+pub fn filmoed_fold(
     head: &mut [u64],
     registers: &mut [u8],
     sparse: &mut [u32],

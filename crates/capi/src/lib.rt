@@ -1,4 +1,4 @@
-// The roll-up for programs in other languages: exported functions on numbers and slices, a static library.
+// The roll-up for programs in other languages: functions on numbers and slices. `capi_c` exports them.
 #![tactic(auto)]
 
 pub mod calls;
