@@ -16,7 +16,7 @@ use Rattle.std.specs.Counts.{IsPrefixLen}
 use Rattle.console.proofs.InputLaws.{side}
 use Rattle.console.specs.declared.output.Said.{Said}
 use Rattle.console.specs.declared.output.Said.TheVariants.{Out, Err}
-use Rattle.console.specs.Output.{out as Saying·out, err as Saying·err, size_of, SaidPost, all_are, hex_text, HexPost, Decimal, SignedBy, SignedPost}
+use Rattle.console.specs.Output.{out as to_output, err as to_error, size_of, SaidPost, all_are, hex_text, HexPost, Decimal, SignedBy, SignedPost}
 
 -- ---- a part of a buffer
 
@@ -54,11 +54,11 @@ module _ (before bytes : List ℕ) {after : List ℕ} {n : ℕ} (room : length b
   inside : IsPrefixLen n after
   inside = let fits : n ≤ length after = omega (arith, ap length put ∙ length-sets before 0 bytes) in (fits, sym (length-take-le n after fits))
 
-  pub said_out : SaidPost (Saying·out bytes) before (Out n) after
-  said_out = record { says = ap Saying·out front; rest = behind; counts = inside }
+  pub said_out : SaidPost (to_output bytes) before (Out n) after
+  said_out = record { says = ap to_output front; rest = behind; counts = inside }
 
-  pub said_err : SaidPost (Saying·err bytes) before (Err n) after
-  said_err = record { says = ap Saying·err front; rest = behind; counts = inside }
+  pub said_err : SaidPost (to_error bytes) before (Err n) after
+  said_err = record { says = ap to_error front; rest = behind; counts = inside }
 
 -- The front that is counted of what is said.
 pub said_counts : {r s : Said} (text : List ℕ) → r ≡ s → IsPrefixLen (size_of r) text → IsPrefixLen (size_of s) text

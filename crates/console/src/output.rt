@@ -2,7 +2,7 @@
 // made by a function with a contract to the writer. A write that fails leaves the output short, which `say` tells and a comparison shows.
 ghost use Rattle.std.specs.Prelude.{◌≡◌, ◌+◌, ◌*◌, ◌≤◌, ◌<◌, length};
 ghost use Rattle.std.proofs.lemmas.List.Edits.{sets};
-ghost use Rattle.console.specs.Digits.{hex_digit_ascii as Digits·glyph};
+ghost use Rattle.console.specs.Digits.{hex_digit_ascii};
 ghost use Rattle.std.specs.Counts.{IsPrefixLen};
 ghost use Rattle.console.specs.Output.{size_of, all_are, widened_of, HexPost, SignedPost};
 
@@ -43,7 +43,7 @@ pub fn widened(v: u32) -> u64
 
 fn glyph(d: u8) -> u8
     requires { d < 16 }
-    ensures { result ≡ Digits·glyph d }
+    ensures { result ≡ hex_digit_ascii d }
 {
     if d < 10 { 48 + d } else { 87 + d }
 }

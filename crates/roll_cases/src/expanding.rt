@@ -1,7 +1,7 @@
 // The bytes of a line: words with a blank between them, each a byte string in hexadecimal, or one that stands there several times: `00*3` is `000000`.
 ghost use Rattle.std.specs.Prelude.{◌≡◌, ◌≤◌, length, take, drop};
 ghost use Rattle.console.specs.Input.{hex_of, number_means};
-ghost use Rattle.roll_cases.specs.Expanding.{times_of, times as Expanding·times, word_bytes, Expands, LinePost};
+ghost use Rattle.roll_cases.specs.Expanding.{times_of, times, word_bytes, Expands, LinePost};
 
 use console::input;
 use console::input::{Bytes, Number};
@@ -9,7 +9,7 @@ use console::input::{Bytes, Number};
 // How often the bytes before the star stand there: once where there is no star.
 fn times(word: &[u8], star: usize) -> Number
     requires { star ≤ length word.now }
-    ensures { number_means result ≡ Expanding·times (drop star word.now) }
+    ensures { number_means result ≡ times (drop star word.now) }
 {
     if star == word.len() {
         return Number::Value(1);

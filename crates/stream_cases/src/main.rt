@@ -1,4 +1,4 @@
-// What `read_all` makes of a stream, by running it: a descriptor that cannot be read; a buffer that is full before the stream ends; the rest of the stream,
+// What `read_all` makes of a stream, by running it: a stream that cannot be read; a buffer that is full before the stream ends; the rest of the stream,
 // which takes more than one read; and its end.
 #![tactic(auto)]
 

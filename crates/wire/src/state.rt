@@ -361,8 +361,7 @@ pub fn parse(s: &[u8]) -> Parsed
     Parsed::Read(f)
 }
 
-// Field 5, none where it is absent. `bytes` are those that `parse` read `f` from. (Parameters that hold no reference inside, so that callers
-// need no proof by hand.)
+// Field 5, none where it is absent. `bytes` are those that `parse` read `f` from.
 pub fn data(bytes: &[u8], f: Fields) -> &[u8]
     ensures { result.now ≡ bytes_or_none (state_of bytes.now f).hll.«data» }
 {

@@ -2,8 +2,7 @@
 // 9abe68bf87 (Apache-2.0, see NOTICE). Changed: where the Rust holds each data field as an optional slice, this holds the bytes once, and `fields`
 // says of each data field whether it is there, where it starts and how long it is.
 //
-// The borrow checker covers no function over a struct that holds a reference: `view` and the methods are proved by hand, and leave the work
-// to functions on plain slices. `state::data` and `state::sparse_data` stand above them, so that no other caller needs such a proof.
+// `view` and the methods leave the work to functions on plain slices. `state::data` and `state::sparse_data` stand above them, with plain parameters.
 ghost use Rattle.std.specs.Prelude.{◌≡◌};
 ghost use Rattle.wire.specs.State.{part_of, state_of, bytes_or_none};
 ghost use Rattle.wire.specs.View.{view_of};
