@@ -4,9 +4,18 @@
 
 use console::input::{Arrived, Stream};
 use console::{input, memory, output, text};
-use std::fs::File;
 use std::io;
-use std::io::{Stdin, Stdout};
+use std::io::{Error, ErrorKind, Read, Stdin, Stdout};
+
+// A stream of which each read fails.
+#[derive(Drop)]
+struct Unreadable;
+
+impl Read for Unreadable {
+    fn read(&mut self, _buf: &mut [u8]) -> io::Result<usize> {
+        Err(Error::from(ErrorKind::Other))
+    }
+}
 
 fn print_stream(stdout: Stdout, arrived: Arrived) {
     let stream = arrived.stream;
@@ -25,14 +34,12 @@ fn read_to_the_end(mut stdin: Stdin, stdout: Stdout, buf: &mut [u8]) {
     print_stream(stdout, input::read_all(&mut stdin, buf));
 }
 
-// A folder can be opened, and each read of it fails.
-fn main(rt: HostRuntime) -> io::Result<()> {
+fn main(rt: HostRuntime) {
     let mut short = memory::buffer();
     let mut long = memory::large_buffer();
-    let mut folder = File::open(&rt, "/")?;
-    print_stream(rt.stdout(), input::read_all(&mut folder, &mut short));
+    let mut unreadable = Unreadable;
+    print_stream(rt.stdout(), input::read_all(&mut unreadable, &mut short));
     read_to_the_end(rt.stdin(), rt.stdout(), &mut short);
     read_to_the_end(rt.stdin(), rt.stdout(), &mut long);
     read_to_the_end(rt.stdin(), rt.stdout(), &mut long);
-    Ok(())
 }
