@@ -1,0 +1,57 @@
+// Document 01's refusals: the first question that was answered with no.
+ghost use Rattle.std.specs.Prelude.{◌≡◌};
+ghost use Rattle.rollup.specs.Refusals.{number};
+
+#[derive(Clone, Copy, Debug, PartialEq, Eq)]
+pub enum Refusal {
+    // The head does not fit the memory that is lent with it.
+    Misfit,
+    TooLong,
+    // The state cannot be read.
+    Unread(u8),
+    WrongType,
+    WrongVersion,
+    UnknownValueType,
+    NoSparsePrecision,
+    BadPrecision,
+    BadDataLength,
+    BadSparsePrecision,
+    BadRegister,
+    // The roll-up has no value type in common with the state.
+    NoCommonType,
+    NotCarried,
+    NoRoom,
+    // The list of the state cannot be read.
+    BadList(u8),
+    NotStarted,
+    ListTooLong,
+    OutputTooShort,
+}
+
+impl Refusal {
+    // Document 01's number.
+    pub fn number(self) -> u8
+        ensures { result ≡ number self }
+    {
+        match self {
+            Refusal::Misfit => 1,
+            Refusal::TooLong => 2,
+            Refusal::Unread(n) => n,
+            Refusal::WrongType => 7,
+            Refusal::WrongVersion => 8,
+            Refusal::UnknownValueType => 9,
+            Refusal::NoSparsePrecision => 10,
+            Refusal::BadPrecision => 11,
+            Refusal::BadDataLength => 12,
+            Refusal::BadSparsePrecision => 13,
+            Refusal::BadRegister => 14,
+            Refusal::NoCommonType => 15,
+            Refusal::NotCarried => 16,
+            Refusal::NoRoom => 17,
+            Refusal::BadList(n) => n,
+            Refusal::NotStarted => 21,
+            Refusal::ListTooLong => 22,
+            Refusal::OutputTooShort => 23,
+        }
+    }
+}
