@@ -13,7 +13,7 @@ use Rattle.rollup.specs.declared.accumulator.Accumulator.{Accumulator}
 use Rattle.rollup.specs.declared.incoming.Incoming.{Incoming}
 use Rattle.rollup.specs.Accumulator.{mem}
 use Rattle.rollup.specs.Taking.{After, dense_head, counted, signed_min, raised_to, dense_after, Shows}
-use Rattle.rollup.specs.Stages.{LowerOwnPre, LowerOwnPost, RaiseByRowPre, RaiseByListPre, RaisePre, DensePre, DensePost}
+use Rattle.rollup.specs.Stages.{LowerOwnPre, LowerOwnPost, RaiseByRowPre, RaiseByListPre, RaisePre, DensePre}
 
 -- ---- the smaller as signed numbers
 
@@ -203,7 +203,10 @@ dense_shown x r after e f kept waiting no_kept no_waiting sparse pending =
           (subst (λ (l : List ℕ). Permᴰ [] l) (sym no_waiting) Permᴰ.nil);
     }
 
-module _ (a : Accumulator) (registers : List ℕ) (x : Incoming) (row vs : List ℕ) (pre : DensePre a registers x row vs) where
+module _ {a : Accumulator} {registers scratch : List ℕ} {x : Incoming} {row : List ℕ} {k : ℕ} (pre : DensePre a registers scratch x row k) where
+  abbrev vs : List ℕ
+  vs = take k scratch
+
   -- The smaller precision, the registers of it and those that are freed.
   abbrev common : ℕ
   common = min a.precision x.precision
@@ -225,7 +228,7 @@ module _ (a : Accumulator) (registers : List ℕ) (x : Incoming) (row vs : List 
   common_low : 4 ≤ common
   common_low = omega (arith, pre.own_low, pre.low)
 
-  module _ (q : ℕ) (after : List ℕ) (post : LowerOwnPost a.precision x.precision registers q after) where
+  module _ {q : ℕ} {after : List ℕ} (post : LowerOwnPost a.precision x.precision registers q after) where
     after_room : register_bytes common ≤ length after
     after_room =
         le_trans (fewer_bytes common a.precision (min-le_left a.precision x.precision))
@@ -251,18 +254,14 @@ module _ (a : Accumulator) (registers : List ℕ) (x : Incoming) (row vs : List 
         (of_front common a.precision own freed registers own_length)
         ∙ with_front common a.precision own freed registers own_length (raised_to common x row vs own)
 
-    pub dense_post : (h r : Accumulator) (s : ℕ) (last : List ℕ) → last ≡ with_registers q (raised_to q x row vs (registers_of q after)) after
-        → h ≡ counted a x → s ≡ signed_min a.sparse_precision x.sparse_precision
-        → r ≡ dense_head h.allowed h.value_type h.num_values q s h.sparse_size h.sparse_bytes
-        → DensePost a registers x row vs r last
+    pub dense_post : {h : Accumulator} {s : ℕ} {last : List ℕ} → last ≡ with_registers q (raised_to q x row vs (registers_of q after)) after
+        → h ≡ counted a x → s ≡ signed_min a.sparse_precision x.sparse_precision → (sparse pending : List ℕ)
+        → Shows (dense_after a (mem registers sparse pending) x row vs)
+        (dense_head h.allowed h.value_type h.num_values q s h.sparse_size h.sparse_bytes) (mem last sparse pending)
     unfolding dense_after
-    dense_post h r s last e e1 e2 f =
-        record {
-          shows = λ (sparse pending : List ℕ).
-              dense_shown (dense_after a (mem registers sparse pending) x row vs) r last
-              (f ∙ ap (λ (g : Accumulator). head g q s) e1 ∙ ap₂ (λ (n t : ℕ). head (counted a x) n t) post.smaller e2) (raised_all last e) refl refl refl refl sparse
-              pending;
-        }
+    dense_post {h} {s} {last} e e1 e2 sparse pending =
+        dense_shown (dense_after a (mem registers sparse pending) x row vs) (head h q s) last
+        (ap (λ (g : Accumulator). head g q s) e1 ∙ ap₂ (λ (n t : ℕ). head (counted a x) n t) post.smaller e2) (raised_all last e) refl refl refl refl sparse pending
       where
         head : Accumulator → ℕ → ℕ → Accumulator
         head g n t = dense_head g.allowed g.value_type g.num_values n t g.sparse_size g.sparse_bytes

@@ -29,7 +29,6 @@ use Rattle.lists.proofs.RegisterLaws.{registers_are}
 use Rattle.rollup.specs.declared.accumulator.Form.{Form}
 use Rattle.rollup.specs.declared.accumulator.Form.TheVariants.{Unstarted, Sparse, Dense}
 use Rattle.rollup.specs.declared.accumulator.Accumulator.{Accumulator}
-use Rattle.rollup.specs.declared.writing.Written.{Written}
 use Rattle.rollup.specs.Accumulator.{Mem, mem, kept_of, waiting_of, limit, fits, is_started}
 use Rattle.rollup.specs.Writing.{flushed, current_size, state_with, state_form, below_limit, unless, write_outcome, WritePost}
 use Rattle.rollup.specs.WritingPaths.{Writes, written_fields, list_outcome, ValuesPre, FlushPre, FlushPost}
@@ -48,11 +47,11 @@ go n {next} e = ap (λ (t : Bool). unless t n next) e
 stop : {q : Bool} (n : ℕ) (next : Output) → q ≡ false → unless q n next ≡ refusal n
 stop n next e = ap (λ (t : Bool). unless t n next) e
 
-pub writes_no : (x : Output) (n : ℕ) (out : List ℕ) → x ≡ refusal n → Writes x out (record { answer = n; len = 0 }) out
+pub writes_no : (x : Output) (n : ℕ) (out : List ℕ) → x ≡ refusal n → Writes x out n 0 out
 writes_no x n out e =
     record {
-      answer = ap (λ (o : Output). o.answer) (sym e);
-      len = ap (λ (o : Output). length o.bytes) (sym e);
+      answered = ap (λ (o : Output). o.answer) (sym e);
+      counted = ap (λ (o : Output). length o.bytes) (sym e);
       output = ap (λ (o : Output). o.bytes ++ drop (length o.bytes) out) (sym e);
     }
 
@@ -83,7 +82,7 @@ module _ (a : Accumulator) (size : ℕ) (l : List ℕ) (bytes : ℕ) (pre : Valu
   abbrev list_state : State
   list_state = state_with a size none (some (encode_list l))
 
-  pub values_22 : (out : List ℕ) → top ≤ bytes → Writes (list_outcome a size l (length out)) out (record { answer = 22; len = 0 }) out
+  pub values_22 : (out : List ℕ) → top ≤ bytes → Writes (list_outcome a size l (length out)) out 22 0 out
   unfolding list_outcome
   values_22 out h =
       writes_no (list_outcome a size l (length out)) 22 out
@@ -135,7 +134,7 @@ module _ (a : Accumulator) (size : ℕ) (l : List ℕ) (bytes : ℕ) (pre : Valu
           )
 
       pub values_23 : (out : List ℕ) (n : ℕ) → n ≡ length head → length out < n + bytes
-          → Writes (list_outcome a size l (length out)) out (record { answer = 23; len = 0 }) out
+          → Writes (list_outcome a size l (length out)) out 23 0 out
       values_23 out n g h =
           writes_no (list_outcome a size l (length out)) 23 out
           (to_encode (length out) ∙ encode_no list_state (length out) (let k : length out < length (encode_of list_state) = omega (arith, whole_length) in k))
@@ -161,14 +160,14 @@ module _ (a : Accumulator) (size : ℕ) (l : List ℕ) (bytes : ℕ) (pre : Valu
             (record { order = pre.order; room = omega (arith, p.next, mid_length, pre.count, length-drop at mid) })
 
         pub values_written : (r : ℕ) (y : List ℕ) → PutPost (mid_of at (length mid - at) mid) 0 (encode_list l) r y
-            → Writes (list_outcome a size l (length out)) out (record { answer = 0; len = n + bytes }) (put_mid at (length mid - at) mid y)
+            → Writes (list_outcome a size l (length out)) out 0 (n + bytes) (put_mid at (length mid - at) mid y)
         values_written r y q =
             let x : list_outcome a size l (length out) ≡ record { answer = 0; bytes = encode_of list_state } =
             to_encode (length out) ∙ encode_yes list_state (length out) (let j : length (encode_of list_state) ≤ length out = omega (arith, whole_length) in j) in
             let room : length head + length (encode_list l) ≤ length out = omega (arith, length_encode l, pre.count) in
             record {
-              answer = ap (λ (o : Output). o.answer) (sym x);
-              len = (let j : n + bytes ≡ length (encode_of list_state) = omega (arith, whole_length) in j) ∙ ap (λ (o : Output). length o.bytes) (sym x);
+              answered = ap (λ (o : Output). o.answer) (sym x);
+              counted = (let j : n + bytes ≡ length (encode_of list_state) = omega (arith, whole_length) in j) ∙ ap (λ (o : Output). length o.bytes) (sym x);
               output =
                   ap (λ (z : List ℕ). take at mid ++ (y ++ z)) tail_end
                   ∙ ap (λ (z : List ℕ). take at mid ++ z) (append-nil y)
@@ -195,15 +194,15 @@ module _ (a : Accumulator) (registers out : List ℕ) where
     encoded : EncodePost dense_state out r after
     encoded = subst (λ (st : State). EncodePost st out r after) (state_view f n e g) p
 
-    pub dense_23 : r ≡ Short → Writes (encode_step dense_state (length out)) out (record { answer = 23; len = 0 }) after
+    pub dense_23 : r ≡ Short → Writes (encode_step dense_state (length out)) out 23 0 after
     dense_23 k =
         let q = subst (λ (x : Encoded). EncodePost dense_state out x after) k encoded in
-        record { answer = q.answer; len = q.written; output = q.output }
+        record { answered = q.answer; counted = q.written; output = q.output }
 
-    pub dense_put : (j : ℕ) → r ≡ Put j → Writes (encode_step dense_state (length out)) out (record { answer = 0; len = j }) after
+    pub dense_put : (j : ℕ) → r ≡ Put j → Writes (encode_step dense_state (length out)) out 0 j after
     dense_put j k =
         let q = subst (λ (x : Encoded). EncodePost dense_state out x after) k encoded in
-        record { answer = q.answer; len = q.written; output = q.output }
+        record { answered = q.answer; counted = q.written; output = q.output }
 
 -- ---- what is kept and what waits, as one list
 
@@ -278,29 +277,29 @@ module _ (a : Accumulator) (registers sparse pending : List ℕ) (room : ℕ) (o
   before = mem registers sparse pending
 
   -- What waits is as it was, or in another order.
-  pub posted : (r : Written) (left after : List ℕ) → Writes (write_outcome a before room (length out)) out r after
+  pub posted : (answer len : ℕ) (left after : List ℕ) → Writes (write_outcome a before room (length out)) out answer len after
       → Permᴰ (take a.pending_len left) (take a.pending_len pending) → length left ≡ length pending
-      → WritePost a before room out r (mem registers sparse left) after
-  posted r left after w p n =
+      → WritePost a before room out answer len (mem registers sparse left) after
+  posted answer len left after w p n =
       record {
-        answer = w.answer;
-        len = w.len;
+        answered = w.answered;
+        counted = w.counted;
         output = w.output;
         same = record { head = refl; registers = refl; kept = refl; waiting = p };
         free = record { registers = refl; sparse = refl; pending = n };
       }
 
-  pub untouched : (r : Written) (after : List ℕ) → Writes (write_outcome a before room (length out)) out r after
-      → WritePost a before room out r before after
-  untouched r after w = posted r pending after w (Permᴰ.refl (take a.pending_len pending)) refl
+  pub untouched : (answer len : ℕ) (after : List ℕ) → Writes (write_outcome a before room (length out)) out answer len after
+      → WritePost a before room out answer len before after
+  untouched answer len after w = posted answer len pending after w (Permᴰ.refl (take a.pending_len pending)) refl
 
-  pub refused_by : (n : ℕ) → write_outcome a before room (length out) ≡ refusal n → WritePost a before room out (record { answer = n; len = 0 }) before out
-  refused_by n e = untouched (record { answer = n; len = 0 }) out (writes_no (write_outcome a before room (length out)) n out e)
+  pub refused_by : (n : ℕ) → write_outcome a before room (length out) ≡ refusal n → WritePost a before room out n 0 before out
+  refused_by n e = untouched n 0 out (writes_no (write_outcome a before room (length out)) n out e)
 
-  pub dense_post : fits a before ≡ true → a.form ≡ Dense → (r : Written) (after : List ℕ)
-      → Writes (encode_step (state_with a a.sparse_size (some (registers_of a.precision registers)) none) (length out)) out r after
-      → WritePost a before room out r before after
-  dense_post fit f r after w = untouched r after (subst (λ (x : Output). Writes x out r after) (sym (write_dense a before room (length out) fit f)) w)
+  pub dense_post : fits a before ≡ true → a.form ≡ Dense → (answer len : ℕ) (after : List ℕ)
+      → Writes (encode_step (state_with a a.sparse_size (some (registers_of a.precision registers)) none) (length out)) out answer len after
+      → WritePost a before room out answer len before after
+  dense_post fit f answer len after w = untouched answer len after (subst (λ (x : Output). Writes x out answer len after) (sym (write_dense a before room (length out) fit f)) w)
 
 -- ---- a list roll-up
 
@@ -325,19 +324,19 @@ module _ (a : Accumulator) (sparse pending : List ℕ) (form : a.form ≡ Sparse
 
   module _ (room : ℕ) (out : List ℕ) where
     pub list_17 : room < a.sparse_len + a.pending_len → (registers : List ℕ)
-        → WritePost a (mem registers sparse pending) room out (record { answer = 17; len = 0 }) (mem registers sparse pending) out
+        → WritePost a (mem registers sparse pending) room out 17 0 (mem registers sparse pending) out
     list_17 h registers =
         refused_by a registers sparse pending room out 17
         (write_full a (mem registers sparse pending) room (length out) (any_registers registers) form h)
 
     module _ (enough : a.sparse_len + a.pending_len ≤ room) where
       listed_post : (registers : List ℕ) (size : ℕ) (l : List ℕ) → current_size a (mem registers sparse pending) ≡ size
-          → flushed a (mem registers sparse pending) ≡ l → (r : Written) (left after : List ℕ) → Writes (list_outcome a size l (length out)) out r after
+          → flushed a (mem registers sparse pending) ≡ l → (answer len : ℕ) (left after : List ℕ) → Writes (list_outcome a size l (length out)) out answer len after
           → Permᴰ (take a.pending_len left) (take a.pending_len pending) → length left ≡ length pending
-          → WritePost a (mem registers sparse pending) room out r (mem registers sparse left) after
-      listed_post registers size l e f r left after w =
-          posted a registers sparse pending room out r left after
-          (subst (λ (x : Output). Writes x out r after)
+          → WritePost a (mem registers sparse pending) room out answer len (mem registers sparse left) after
+      listed_post registers size l e f answer len left after w =
+          posted a registers sparse pending room out answer len left after
+          (subst (λ (x : Output). Writes x out answer len after)
           (ap₂ (λ (k : ℕ) (v : List ℕ). list_outcome a k v (length out)) (sym e) (sym f)
           ∙ sym (write_listed a (mem registers sparse pending) room (length out) (any_registers registers) form enough)) w)
 
@@ -345,12 +344,12 @@ module _ (a : Accumulator) (sparse pending : List ℕ) (form : a.form ≡ Sparse
       pub kept_pre : (bytes : ℕ) → bytes ≡ written (take a.sparse_len sparse) → ValuesPre a (take a.sparse_len sparse) bytes
       kept_pre bytes e = record { low = list_fit.pair.low; high = list_fit.pair.high; order = list_fit.order; count = e }
 
-      pub kept_post : a.pending_len ≡ 0 → (r : Written) (after : List ℕ)
-          → Writes (list_outcome a a.sparse_size (take a.sparse_len sparse) (length out)) out r after
-          → (registers : List ℕ) → WritePost a (mem registers sparse pending) room out r (mem registers sparse pending) after
-      kept_post e r after w registers =
+      pub kept_post : a.pending_len ≡ 0 → (answer len : ℕ) (after : List ℕ)
+          → Writes (list_outcome a a.sparse_size (take a.sparse_len sparse) (length out)) out answer len after
+          → (registers : List ℕ) → WritePost a (mem registers sparse pending) room out answer len (mem registers sparse pending) after
+      kept_post e answer len after w registers =
           listed_post registers a.sparse_size (take a.sparse_len sparse) (size_none a (mem registers sparse pending) e)
-          (flushed_none a (mem registers sparse pending) e) r pending after w (Permᴰ.refl (take a.pending_len pending)) refl
+          (flushed_none a (mem registers sparse pending) e) answer len pending after w (Permᴰ.refl (take a.pending_len pending)) refl
 
       -- Values wait.
       module _ (enc : Encoding) (new : NewPost a.precision a.sparse_precision enc) where
@@ -421,16 +420,16 @@ module _ (a : Accumulator) (sparse pending : List ℕ) (form : a.form ≡ Sparse
               }
 
           pub flushed_post : (a.pending_len ≡ 0 → ⊥) → (k : ℕ) → k ≡ distinct_indices enc.normal_precision enc.sparse_precision (take u.len scratch)
-              → length left ≡ length pending → (r : Written) (after : List ℕ) → Writes (list_outcome a k (take u.len scratch) (length out)) out r after
-              → (registers : List ℕ) → WritePost a (mem registers sparse pending) room out r (mem registers sparse left) after
-          flushed_post n k e g r after w registers =
+              → length left ≡ length pending → (answer len : ℕ) (after : List ℕ) → Writes (list_outcome a k (take u.len scratch) (length out)) out answer len after
+              → (registers : List ℕ) → WritePost a (mem registers sparse pending) room out answer len (mem registers sparse left) after
+          flushed_post n k e g answer len after w registers =
               let p = a.precision in
               let s = a.sparse_precision in
               let m = mem registers sparse pending in
               let list : take u.len scratch ≡ merged p s kept waiting = at_pair new (λ (p s : ℕ). take u.len scratch ≡ merged p s kept waiting) x.merge.values in
               let size : k ≡ distinct_indices p s (take u.len scratch) = at_pair new (λ (p s : ℕ). k ≡ distinct_indices p s (take u.len scratch)) e in
               listed_post registers k (take u.len scratch) (size_some a m n ∙ ap (distinct_indices p s) (sym list) ∙ sym size)
-              (flushed_some a m n ∙ sym list) r left after w
+              (flushed_some a m n ∙ sym list) answer len left after w
               (subst (λ (l : List ℕ). Permᴰ l waiting) (sym x.waiting) (perm_sort waiting)) g
 
 -- ---- sorting what waits, and the merge

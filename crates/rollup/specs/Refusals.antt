@@ -1,12 +1,13 @@
 -- Document 01's numbers of the refusals, and of an answer.
 use Rattle.std.specs.Prelude.{ℕ, Result, Ok, Err}
+use Rattle.rollup.specs.Interim.{read_error_number, decode_refusal}
 use Rattle.rollup.specs.declared.refusal.Refusal.{Refusal}
 use Rattle.rollup.specs.declared.refusal.Refusal.TheVariants.{Misfit, TooLong, Unread, WrongType, WrongVersion, UnknownValueType, NoSparsePrecision, BadPrecision, BadDataLength, BadSparsePrecision, BadRegister, NoCommonType, NotCarried, NoRoom, BadList, NotStarted, ListTooLong, OutputTooShort}
 
 abbrev pub number : Refusal → ℕ
 number Misfit = 1
 number TooLong = 2
-number (Unread n) = n
+number (Unread e) = read_error_number e
 number WrongType = 7
 number WrongVersion = 8
 number UnknownValueType = 9
@@ -18,7 +19,7 @@ number BadRegister = 14
 number NoCommonType = 15
 number NotCarried = 16
 number NoRoom = 17
-number (BadList n) = n
+number (BadList e) = decode_refusal e
 number NotStarted = 21
 number ListTooLong = 22
 number OutputTooShort = 23

@@ -9,8 +9,6 @@ use Rattle.lists.specs.Registers.{register_bytes, registers_of, with_registers, 
 use Rattle.lists.specs.declared.values.Sparse.{Sparse as Encoding}
 use Rattle.lists.specs.Merging.{MergePre}
 use Rattle.lists.specs.declared.merging.Merged.{Merged}
-use Rattle.lists.specs.declared.decoding.Decoded.{Decoded}
-use Rattle.lists.specs.declared.decoding.Decoded.TheVariants.{Done, Refused}
 use Rattle.rollup.specs.declared.accumulator.Form.TheVariants.{Unstarted, Sparse, Dense}
 use Rattle.rollup.specs.declared.accumulator.Accumulator.{Accumulator}
 use Rattle.rollup.specs.declared.incoming.Incoming.{Incoming}
@@ -244,11 +242,6 @@ pub record AcceptPre (a : Accumulator) (distinct : Bool) (m : Mem) (scratch : Li
   pub inside : k ≤ length scratch
   pub taken : TakePre a m (length scratch) (state_numbers st (take k scratch)) (data_of st) (take k scratch)
   pub known : KnownDistinct distinct a.precision a.sparse_precision (kept_of a m)
-
--- Document 01's number of a refusal.
-abbrev pub decoded_refusal : Decoded → ℕ
-decoded_refusal (Done k) = 0
-decoded_refusal (Refused n) = n
 
 -- What an accepted state leaves, and what is known afterwards.
 pub record AcceptPost (a : Accumulator) (m : Mem) (st : State) (vs : List ℕ) (r : Fitted) (n : Mem) : Type 0 where

@@ -1,12 +1,12 @@
 // Adding a state. Ported from `Accumulator::add_view` in src/accumulator.rs of zetasketch-rs at commit 9abe68bf87 (Apache-2.0, see NOTICE). Changed:
 // every question is asked before anything but `scratch` is written, a refusal has document 01's number, and the memory is lent.
-ghost use Rattle.std.specs.Prelude.{◌≡◌, ℕ, ◌≤◌, List, length, take};
-ghost use Rattle.wire.specs.State.{state_of};
+ghost use Rattle.std.specs.Prelude.{◌≡◌, ◌≤◌, length, take};
+ghost use Rattle.rollup.specs.Header.{viewed, list_of};
 ghost use Rattle.rollup.specs.Refusals.{answer_of};
 ghost use Rattle.rollup.specs.Accumulator.{kept_of};
 ghost use Rattle.rollup.specs.Lent.{mem_of, SameLent};
 ghost use Rattle.rollup.specs.Adding.{numbers_of, AddPost};
-ghost use Rattle.rollup.specs.Stages.{AcceptPre, decoded_refusal, distinct_after, Sound, AcceptPost, FittingPost};
+ghost use Rattle.rollup.specs.Stages.{AcceptPre, distinct_after, Sound, AcceptPost, FittingPost};
 
 use crate::accumulator::{Accumulator, Form, MAX_PENDING};
 use crate::incoming::Incoming;
@@ -14,9 +14,7 @@ use crate::memory::Memory;
 use crate::paths::Path;
 use crate::refusal::Refusal;
 use crate::{header, judging};
-use lists::decoding::Decoded;
-use wire::state;
-use wire::state::Fields;
+use wire::view::StateView;
 
 // A head that fits its memory, and what is known of the list that is kept: `distinct` says that it is one that a merge can leave. An insertion need not walk such a
 // list first. New: the Rust inserts without looking (document 01, "Difference").
@@ -26,29 +24,20 @@ pub struct Fitted {
     pub distinct: bool,
 }
 
-fn decoded_refusal(r: Decoded) -> u8
-    ensures { result ≡ decoded_refusal r }
-{
-    match r {
-        Decoded::Done(_) => 0,
-        Decoded::Refused(n) => n,
-    }
-}
-
-// The numbers of a state with so many list bytes and values.
-fn state_numbers(f: Fields, list_bytes: usize, k: usize) -> Incoming
+// The numbers of a state whose list has k values.
+fn state_numbers(view: StateView, k: usize) -> Incoming
     requires { k ≤ 2147483647 }
-    ensures { (s : List ℕ) → result ≡ numbers_of (state_of s f) list_bytes k }
+    ensures { result ≡ numbers_of (viewed view.entry) (length (list_of (viewed view.entry))) k }
 {
-    let hll = f.hll;
+    let fields = view.fields;
     Incoming {
-        mask: header::allowed_types(f.value_type),
-        value_type: f.value_type,
-        num_values: f.num_values,
-        precision: hll.precision,
-        sparse_precision: hll.sparse_precision,
-        sparse_size: hll.sparse_size,
-        list_bytes,
+        mask: header::allowed_types(fields.value_type),
+        value_type: fields.value_type,
+        num_values: fields.num_values,
+        precision: fields.hll.precision,
+        sparse_precision: fields.hll.sparse_precision,
+        sparse_size: fields.hll.sparse_size,
+        list_bytes: view.sparse_data().len(),
         growth: 5 * k,
         most: MAX_PENDING,
     }
@@ -78,16 +67,16 @@ impl Accumulator {
 
 impl Fitted {
     // A state that is accepted takes its path. The first k cells of `scratch` hold the values of its list.
-    fn accept(self, f: Fields, bytes: &[u8], memory: &mut Memory, k: usize) -> Fitted
-        requires { AcceptPre self.head self.distinct (mem_of memory.old) memory.old.scratch.now (state_of bytes.now f) k }
-        ensures post { AcceptPost self.head (mem_of memory.old) (state_of bytes.now f) (take k memory.old.scratch.now) result (mem_of memory.new) }
+    fn accept(self, view: StateView, memory: &mut Memory, k: usize) -> Fitted
+        requires { AcceptPre self.head self.distinct (mem_of memory.old) memory.old.scratch.now (viewed view) k }
+        ensures post { AcceptPost self.head (mem_of memory.old) (viewed view.entry) (take k memory.old.scratch.now) result (mem_of memory.new) }
         ensures same { SameLent memory.old memory.new }
     {
         let a = self.head;
-        let x = state_numbers(f, state::sparse_data(bytes, f).len(), k);
+        let x = state_numbers(view, k);
         let path = a.path_of(x, a.kept(memory), k, self.distinct);
         Fitted {
-            head: a.take(x, path, memory, state::data(bytes, f), k),
+            head: a.take(x, path, memory, view.data(), k),
             distinct: distinct_after(a.form, path, self.distinct),
         }
     }
@@ -98,15 +87,12 @@ impl Fitted {
         ensures post { FittingPost self.old.head (mem_of memory.old) (length memory.old.scratch.now) bytes.now (answer_of result) self.new (mem_of memory.new) }
         ensures same { SameLent memory.old memory.new }
     {
-        let f = self.head.judge(bytes)?;
-        if !self.head.has_room(f, bytes, memory) {
+        let view = self.head.judge(bytes)?;
+        if !self.head.has_room(view, memory) {
             return Err(Refusal::NoRoom);
         }
-        let read = judging::decode_listed(bytes, f, memory.scratch);
-        let Decoded::Done(k) = read else {
-            return Err(Refusal::BadList(decoded_refusal(read)));
-        };
-        *self = self.accept(f, bytes, memory, k);
+        let k = judging::decode_listed(view, memory.scratch)?;
+        *self = self.accept(view, memory, k);
         Ok(())
     }
 }

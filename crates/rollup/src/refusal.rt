@@ -1,6 +1,9 @@
 // Document 01's refusals: the first question that was answered with no.
 ghost use Rattle.std.specs.Prelude.{◌≡◌};
+ghost use Rattle.rollup.specs.declared.refusal.Refusal.TheVariants.{Unread, BadList};
 ghost use Rattle.rollup.specs.Refusals.{number};
+
+use crate::interim::{DecodeError, ReadError};
 
 #[derive(Clone, Copy, Debug, PartialEq, Eq)]
 pub enum Refusal {
@@ -8,7 +11,7 @@ pub enum Refusal {
     Misfit,
     TooLong,
     // The state cannot be read.
-    Unread(u8),
+    Unread(ReadError),
     WrongType,
     WrongVersion,
     UnknownValueType,
@@ -22,7 +25,7 @@ pub enum Refusal {
     NotCarried,
     NoRoom,
     // The list of the state cannot be read.
-    BadList(u8),
+    BadList(DecodeError),
     NotStarted,
     ListTooLong,
     OutputTooShort,
@@ -36,7 +39,7 @@ impl Refusal {
         match self {
             Refusal::Misfit => 1,
             Refusal::TooLong => 2,
-            Refusal::Unread(n) => n,
+            Refusal::Unread(e) => e as u8,
             Refusal::WrongType => 7,
             Refusal::WrongVersion => 8,
             Refusal::UnknownValueType => 9,
@@ -48,10 +51,26 @@ impl Refusal {
             Refusal::NoCommonType => 15,
             Refusal::NotCarried => 16,
             Refusal::NoRoom => 17,
-            Refusal::BadList(n) => n,
+            Refusal::BadList(e) => e as u8,
             Refusal::NotStarted => 21,
             Refusal::ListTooLong => 22,
             Refusal::OutputTooShort => 23,
         }
+    }
+}
+
+impl From<ReadError> for Refusal {
+    ghost from_gives = { λ e r. r ≡ Unread e };
+
+    fn from(e: ReadError) -> Refusal {
+        Refusal::Unread(e)
+    }
+}
+
+impl From<DecodeError> for Refusal {
+    ghost from_gives = { λ e r. r ≡ BadList e };
+
+    fn from(e: DecodeError) -> Refusal {
+        Refusal::BadList(e)
     }
 }
