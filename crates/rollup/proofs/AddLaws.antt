@@ -20,7 +20,7 @@ use Rattle.rollup.specs.Header.{viewed, data_of, list_of}
 use Rattle.rollup.specs.Taking.{After, path_of, taken_after, Shows, Free}
 use Rattle.rollup.specs.Adding.{Outcome, refuse, accept, numbers_of, state_numbers, accepted_after, judge, has_room, listed_in, question, opened, add_outcome, judge_answer, AddPost}
 use Rattle.rollup.specs.Judging.{JudgePost, RoomPre, ListedPre}
-use Rattle.rollup.specs.Stages.{KnownDistinct, PathPre, TakePre, TakingPre, distinct_after, AcceptPre, AcceptPost, FittingPost}
+use Rattle.rollup.specs.Stages.{KnownDistinct, InsertsPre, PathPre, TakePre, TakingPre, distinct_after, AcceptPre, AcceptPost, FittingPost}
 use Rattle.rollup.proofs.FitLaws.{fit_sparse}
 use Rattle.rollup.proofs.JudgeLaws.{judged_state, judged_short, listed_pre}
 use Rattle.rollup.proofs.TakeLaws.{fit_kept, Ready, ready_takes}
@@ -120,11 +120,11 @@ module _ {a : Accumulator} {distinct : Bool} {m : Mem} {scratch : List ℕ} {st 
   pub accept_kept : a.sparse_len ≤ length m.sparse
   accept_kept = fit_kept a m pre.taken.fit
 
-  module _ (x : Incoming) (numbers : x ≡ numbers_of st (length (list_of st)) k) where
+  module _ {x : Incoming} (numbers : x ≡ numbers_of st (length (list_of st)) k) {kept : List ℕ} (there : kept ≡ kept_of a m) where
     the_state : x ≡ state_numbers st vs
     the_state = numbers ∙ ap (numbers_of st (length (list_of st))) (sym count)
 
-    pub accept_path : PathPre a x (kept_of a m) k distinct
+    pub accept_path : PathPre a x kept k distinct
     accept_path f =
         let s = fit_sparse a m pre.taken.fit f in (
           record {
@@ -135,10 +135,14 @@ module _ {a : Accumulator} {distinct : Bool} {m : Mem} {scratch : List ℕ} {st 
             growth = subst (λ (y : Incoming). y.growth ≤ 5 * 2147483647) (sym the_state) pre.taken.growth_high;
             incoming = accept_few;
           },
-          record { pair = s.pair; order = s.order; all = s.kept_valid; known = pre.known },
+          subst (λ (l : List ℕ). InsertsPre a l distinct) (sym there)
+          (record { pair = s.pair; order = s.order; all = s.kept_valid; known = pre.known }),
         )
 
-    module _ (path : Option Path) (its : path ≡ path_of a.form a (kept_of a m) x k) (row : List ℕ) (same : row ≡ data_of st) where
+    module _ {path : Option Path} (its : path ≡ path_of a.form a kept x k) {row : List ℕ} (same : row ≡ data_of st) where
+      its_path : path ≡ path_of a.form a (kept_of a m) x k
+      its_path = its ∙ ap (λ (l : List ℕ). path_of a.form a l x k) there
+
       pub accept_taking : TakingPre a m scratch x path row k
       accept_taking =
           record {
@@ -146,12 +150,12 @@ module _ {a : Accumulator} {distinct : Bool} {m : Mem} {scratch : List ℕ} {st 
             taken =
                 subst (λ (y : Incoming). TakePre a m (length scratch) y row vs) (sym the_state)
                 (subst (λ (l : List ℕ). TakePre a m (length scratch) (state_numbers st vs) l vs) (sym same) pre.taken);
-            its = its;
+            its = its_path;
           }
 
-      pub accept_post : (r : Accumulator) (n : Mem) (known : Bool) → known ≡ distinct_after a.form path distinct
+      pub accept_post : {known : Bool} → known ≡ distinct_after a.form path distinct → {r : Accumulator} {n : Mem}
           → Shows (taken_after a.form a m x row vs) r n → AcceptPost a m st vs (record { head = r; distinct = known }) n
-      accept_post r n known e shows =
+      accept_post {known} e {r} {n} shows =
           let shown : Shows (accepted_after a.form a m st vs) r n =
           subst (λ (y : Incoming). Shows (taken_after a.form a m y (data_of st) vs) r n) the_state
           (subst (λ (l : List ℕ). Shows (taken_after a.form a m x l vs) r n) same shows) in
@@ -160,7 +164,7 @@ module _ {a : Accumulator} {distinct : Bool} {m : Mem} {scratch : List ℕ} {st 
             known =
                 subst (λ (b : Bool). KnownDistinct b r.precision r.sparse_precision (kept_of r n)) (sym e)
                 (distinct_after_lem pre.taken distinct pre.known path
-                (its ∙ ap₂ (λ (y : Incoming) (j : ℕ). path_of a.form a (kept_of a m) y j) the_state (sym count)) r n shown);
+                (its_path ∙ ap₂ (λ (y : Incoming) (j : ℕ). path_of a.form a (kept_of a m) y j) the_state (sym count)) r n shown);
           }
 
 -- ---- the stages, as the code has them

@@ -52,10 +52,7 @@ chosen none wait others insert = cond none None (cond wait (Some Waits) (cond ot
 
 abbrev pub is_some : Option Path → Bool
 is_some None = false
-is_some (Some Waits) = true
-is_some (Some Sorts) = true
-is_some (Some Inserts) = true
-is_some (Some Merges) = true
+is_some (Some p) = true
 
 abbrev is_insertion : Option Path → Bool
 is_insertion None = false

@@ -192,7 +192,7 @@ module _ (vs ordered tail : List ℕ) (n : ℕ) (long : length vs ≡ n) (e : or
         let s = enc.sparse_precision in
         merge_post p s kept (take n (ordered ++ tail)) vs r after (ap (merged p s kept) sorted_front ∙ merged_sort p s kept vs) m
 
-module _ (enc : Encoding) (sparse : List ℕ) (n : ℕ) (incoming scratch : List ℕ) (pre : BackPre enc sparse n incoming scratch) (r : Merged) (after : List ℕ)
+module _ {enc : Encoding} {sparse : List ℕ} {n : ℕ} {incoming scratch : List ℕ} (pre : BackPre enc sparse n incoming scratch) {r : Merged} {after : List ℕ}
     (post : MergePost enc.normal_precision enc.sparse_precision (take n sparse) incoming r after) where
   pub back_fits : r.len ≤ n + length incoming
   back_fits =
@@ -212,47 +212,47 @@ module _ (enc : Encoding) (sparse : List ℕ) (n : ℕ) (incoming scratch : List
         length-take-le n sparse (let h : n ≤ length sparse = omega (arith, pre.room) in h),
       )
 
-module _ (enc : Encoding) (sparse : List ℕ) (n : ℕ) (pending : List ℕ) (w : ℕ) (scratch : List ℕ) (k : ℕ) (pre : JoinPre enc sparse n pending w scratch k) where
+module _ {enc : Encoding} {sparse : List ℕ} {n : ℕ} {pending : List ℕ} {w : ℕ} {scratch : List ℕ} {k : ℕ} (pre : JoinPre enc sparse n pending w scratch k) where
   -- The values that come in were copied after those that wait.
-  module _ (all : ℕ) (first : List ℕ) (e : all ≡ w + (k - 0)) (f : take all first ≡ take w pending ++ take k scratch) where
-    pub joined_length : length (take all first) ≡ w + k
+  module _ (first : List ℕ) (f : take (w + k) first ≡ take w pending ++ take k scratch) where
+    pub joined_length : length (take (w + k) first) ≡ w + k
     joined_length =
         ap length f
         ∙ length-append (take w pending) (take k scratch)
         ∙ ap₂ (λ (x y : ℕ). x + y) (length-take-le w pending (let h : w ≤ length pending = omega (arith, pre.in_pending) in h))
         (length-take-le k scratch (let h : k ≤ length scratch = omega (arith, pre.in_scratch) in h))
 
-    pub joined_order : w ≡ 0 → ascends (take all first) ≡ true
+    pub joined_order : w ≡ 0 → ascends (take (w + k) first) ≡ true
     joined_order z = ap ascends (f ∙ ap (λ (x : ℕ). take x pending ++ take k scratch) z) ∙ pre.incoming_order
 
     -- They were put in order, in place.
-    module _ (ordered tail : List ℕ) (g : ordered ≡ sort_of (take all first)) where
+    module _ {ordered : List ℕ} (tail : List ℕ) (g : ordered ≡ sort_of (take (w + k) first)) where
       abbrev both : List ℕ
       both = take w pending ++ take k scratch
 
-      both_length : length both ≡ all
-      both_length = ap length (sym f) ∙ joined_length ∙ (let h : w + k ≡ all = omega arith in h)
+      both_length : length both ≡ w + k
+      both_length = ap length (sym f) ∙ joined_length
 
       in_order : ordered ≡ sort_of both
       in_order = g ∙ ap sort_of f
 
-      pub joined_back : (spare : List ℕ) → length spare ≡ length scratch → BackPre enc sparse n (take all (ordered ++ tail)) spare
-      joined_back spare same =
+      pub joined_back : {spare : List ℕ} → length spare ≡ length scratch → BackPre enc sparse n (take (w + k) (ordered ++ tail)) spare
+      joined_back {spare} same =
           let p = enc.normal_precision in
           let s = enc.sparse_precision in
           let kept_length = length-take-le n sparse (let h : n ≤ length sparse = omega (arith, pre.in_sparse) in h) in
           record {
             merge =
-                sorted_merge both ordered tail all both_length in_order enc (take n sparse) spare pre.fits pre.order pre.kept_valid
+                sorted_merge both ordered tail (w + k) both_length in_order enc (take n sparse) spare pre.fits pre.order pre.kept_valid
                 (valid_append p s (take w pending) (take k scratch) pre.waiting_valid pre.incoming_valid)
                 (omega (arith, pre.in_scratch, pre.in_sparse, same, kept_length));
-            room = omega (arith, pre.in_sparse, ap length (sorted_front both ordered tail all both_length in_order), length_sort both, both_length);
+            room = omega (arith, pre.in_sparse, ap length (sorted_front both ordered tail (w + k) both_length in_order), length_sort both, both_length);
           }
 
-      pub joined_post : (r : Merged) (after : List ℕ)
-          → MergePost enc.normal_precision enc.sparse_precision (take n sparse) (take all (ordered ++ tail)) r after
+      pub joined_post : {r : Merged} {after : List ℕ}
+          → MergePost enc.normal_precision enc.sparse_precision (take n sparse) (take (w + k) (ordered ++ tail)) r after
           → MergePost enc.normal_precision enc.sparse_precision (take n sparse) both r after
-      joined_post = sorted_post both ordered tail all both_length in_order enc (take n sparse)
+      joined_post = sorted_post both ordered tail (w + k) both_length in_order enc (take n sparse) _ _
 
 -- ---- all values as one list
 
@@ -556,8 +556,8 @@ module _ {a : Accumulator} {m : Mem} {scratch : List ℕ} {x : Incoming} {path :
       unfolding list_after
       shows_inserted e s = shows_path (Some Inserts) e s
 
-      pub shows_merged : (path ≡ (Some Sorts)) ⊎ (path ≡ (Some Merges)) → {r : Accumulator} {n : Mem}
+      pub shows_merged : {q : Path} → path ≡ Some q → (q ≡ Sorts) ⊎ (q ≡ Merges) → {r : Accumulator} {n : Mem}
           → Shows (settle h m.registers (all_merged h m (take k scratch)) (written (all_merged h m (take k scratch)))) r n
           → Shows (sparse_after a m x row (take k scratch)) r n
       unfolding list_after
-      shows_merged e s = ⊎_elim (λ (p : path ≡ (Some Sorts)). shows_path (Some Sorts) p s) (λ (p : path ≡ (Some Merges)). shows_path (Some Merges) p s) e
+      shows_merged {q} e either s = ⊎_elim (λ (p : q ≡ Sorts). shows_path (Some Sorts) (e ∙ ap Some p) s) (λ (p : q ≡ Merges). shows_path (Some Merges) (e ∙ ap Some p) s) either

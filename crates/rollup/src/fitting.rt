@@ -61,6 +61,7 @@ impl Accumulator {
     }
 
     // Whether the counts fit lists of `cells` and `waiting_cells` cells, and each other.
+    #[tactic(auto, unfolding(crate::specs::Accumulator::counts_fit))]
     fn counts_fit(self, cells: usize, waiting_cells: usize) -> bool
         requires { (4 ≤ self.precision) × (self.precision ≤ 24) }
         ensures { result ≡ counts_fit self cells waiting_cells }
@@ -73,6 +74,7 @@ impl Accumulator {
     }
 
     // Whether the values are valid, those kept in order, and their bytes counted.
+    #[tactic(auto, unfolding(crate::specs::Accumulator::lists_fit))]
     fn lists_fit(self, kept: &[u32], waiting: &[u32]) -> bool
         requires { Pair self.precision self.sparse_precision }
         ensures { result ≡ lists_fit self kept.now waiting.now }
@@ -85,6 +87,7 @@ impl Accumulator {
     }
 
     // Whether a list roll-up fits. Of the memory only the two lists count.
+    #[tactic(auto, using(crate::proofs::FitLaws::counts_of))]
     fn sparse_fits(self, sparse: &[u32], pending: &[u32]) -> bool
         ensures { result ≡ sparse_fits self (mem [] sparse.now pending.now) }
     {
@@ -104,6 +107,7 @@ impl Accumulator {
     }
 
     // Of the memory what it reads, and not the whole `Memory`: `write` is lent two of the slices as `&`, as C lends them const.
+    #[tactic(auto, unfolding(crate::specs::Accumulator::fits))]
     pub fn fits(self, registers: &[u8], sparse: &[u32], pending: &[u32]) -> bool
         ensures { result ≡ headFits self (mem registers.now sparse.now pending.now) }
     {

@@ -82,6 +82,7 @@ pub fn has_sparse_data(view: StateView) -> bool
 }
 
 // 7 to 9.
+#[tactic(auto, unfolding(crate::specs::Header::kind_answer))]
 fn validate_kind(view: StateView) -> Result<(), Refusal>
     ensures { answer_of result ≡ kind_answer (viewed view.entry) }
 {
@@ -121,6 +122,7 @@ fn needs_pair(view: StateView) -> bool
 }
 
 // 7 to 13: all but a look at the registers.
+#[tactic(auto, using(crate::proofs::RefusalLaws::number_some), unfolding(crate::specs::Header::structure_answer))]
 pub fn validate_structure(view: StateView) -> Result<(), Refusal>
     ensures { answer_of result ≡ structure_answer (viewed view.entry) }
 {
@@ -152,6 +154,7 @@ fn registers_in_range(view: StateView) -> bool
 }
 
 // 7 to 14.
+#[tactic(auto, using(crate::proofs::RefusalLaws::number_some), unfolding(crate::specs::Header::header_answer))]
 pub fn validate_header(view: StateView) -> Result<(), Refusal>
     ensures { answer_of result ≡ header_answer (viewed view.entry) }
 {

@@ -58,6 +58,7 @@ impl Accumulator {
     }
 
     // 15 and 16.
+    #[tactic(auto, unfolding(crate::specs::Adding::match_answer))]
     fn validate_match(self, view: StateView) -> Result<(), Refusal>
         ensures { answer_of result ≡ match_answer self (viewed view.entry) }
     {
@@ -108,6 +109,7 @@ impl Accumulator {
     }
 
     // 17.
+    #[tactic(auto, unfolding(crate::specs::Adding::has_room))]
     pub(crate) fn has_room(self, view: StateView, memory: &Memory) -> bool
         requires { RoomPre self (mem_of memory.now) (viewed view) }
         ensures { result ≡ has_room self (mem_of memory.now) (length memory.now.scratch.now) (viewed view.entry) }
