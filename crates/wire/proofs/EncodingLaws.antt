@@ -11,10 +11,11 @@ use lib.Dec.{eqb}
 use lib.ListN.{length, take, drop, get_or, set, length-append, length-set, length-take, length-drop, drop_of_length-le}
 use lib.Seq.{sets, length-sets, sets-eq, drop-cons}
 use borrow.Author.Tests.{lt-ltb, le-ltb, le-leb, lt-leb, eq-eqb, ne_eqb, not-true, not-false}
-use Rattle.wire.specs.declared.state.Part.{Part}
+use Rattle.wire.specs.declared.fields.Part.{Part}
 use Rattle.wire.specs.declared.state.HllFields.{HllFields}
 use Rattle.wire.specs.declared.state.Fields.{Fields}
-use Rattle.wire.specs.declared.encoding.Encoded.TheVariants.{Written, Short}
+use Rattle.std.specs.Prelude.{Ok, Err}
+use Rattle.wire.specs.declared.encoding.EncodeError.TheVariants.{OutputTooShort}
 use Rattle.wire.specs.Varints.{varint_bytes, PutPost}
 use Rattle.wire.specs.Fields.{tag, VARINT, LEN}
 use Rattle.wire.specs.State.{HllState, State, when_present, bytes_or_none, part_of, hll_of, state_of}
@@ -387,7 +388,7 @@ unfolding encode_step
 encode_yes st room h = ap (λ (b : Bool). cond b (record { answer = 0; bytes = encode_of st }) (record { answer = 23; bytes = [] })) (le-leb _ _ h)
 
 module _ (st : State) (out : List ℕ) where
-  pub encode_short : length out < length (encode_of st) → EncodePost st out Short out
+  pub encode_short : length out < length (encode_of st) → EncodePost st out (Err OutputTooShort) out
   encode_short h =
       record {
         answer = ap (λ (o : Output). o.answer) (sym step);
@@ -399,7 +400,7 @@ module _ (st : State) (out : List ℕ) where
       step = encode_no st (length out) h
 
   pub encode_written : (r : ℕ) (after : List ℕ) → length (encode_of st) ≤ length out → PutPost out 0 (encode_of st) r after
-      → EncodePost st out (Written r) after
+      → EncodePost st out (Ok r) after
   encode_written r after h p =
       record {
         answer = ap (λ (o : Output). o.answer) (sym step);
