@@ -10,7 +10,7 @@ use lib.Count.{count_leading_zeros, leading_le, leading_top, leading_length, lea
 use borrow.Author.Tests.{eqb-false, lt-leb}
 use Rattle.wire.proofs.BoolLaws.{both_true, whichever}
 use Rattle.wire.proofs.VarintLaws.{side}
-use Rattle.lists.specs.Values.{mark_bit, mark, marked, plain_end, marked_end, least_marked_rank, marked_rank_fits, valid, sparse_index, register, plain_rank, rank, largest_rank, lowered_rank, lowered_register, Pair, NewPost, IndexPost, RankPost}
+use Rattle.lists.specs.Values.{mark_bit, mark, marked, plain_end, marked_end, least_marked_rank, marked_rank_fits, valid, sparse_index, register, plain_rank, rank, largest_rank, lowered_rank, lowered_register, Pair, IndexPost, RankPost}
 
 -- ---- tests
 
@@ -408,14 +408,8 @@ lowered_register_le d index (suc r) = omega (arith, lowered_register_lem d index
 -- ---- what the code computes
 
 -- `bit` is the larger of the two precisions that the mark stands above.
-pub new_post : (p s bit : ℕ) → Pair p s → bit ≡ mark_bit p s
-    → NewPost p s (record { normal_precision = p; sparse_precision = s; rho_encoded_flag = (1 * 2 ^ bit) % 2 ^ 32 })
-new_post p s bit pair e =
-    record {
-      fits = record { pair = pair; flag = ap (λ (k : ℕ). (1 * 2 ^ k) % 2 ^ 32) e ∙ mark_shl p s pair };
-      normal = refl;
-      sparse = refl;
-    }
+pub code_mark : (p s bit : ℕ) → Pair p s → bit ≡ mark_bit p s → (1 * 2 ^ bit) % 2 ^ 32 ≡ mark p s
+code_mark p s bit pair e = ap (λ (k : ℕ). (1 * 2 ^ k) % 2 ^ 32) e ∙ mark_shl p s pair
 
 -- The least low six bits, and the end of the plain values by it.
 module _ (p s : ℕ) where
@@ -504,9 +498,9 @@ module _ {p s : ℕ} (v r : ℕ) (pair : Pair p s) (t : valid p s v ≡ true) wh
   pub rank_plain_post : marked p s v ≡ false → r ≡ plain_rank (s - p) v → RankPost p s v r
   rank_plain_post e h = rank_post (h ∙ sym (rank_plain p s v e))
 
-  pub rank_marked_post : marked p s v ≡ true → r ≡ v % 64 + s - p → RankPost p s v r
+  pub rank_marked_post : marked p s v ≡ true → r ≡ v % 64 + (s - p) → RankPost p s v r
   rank_marked_post e h =
-      rank_post (h ∙ (let g : v % 64 + s - p ≡ v % 64 + (s - p) = omega (arith, pair.above) in g) ∙ sym (rank_marked p s v e))
+      rank_post (h ∙ sym (rank_marked p s v e))
 
 -- The code's leading zeros of the low k bits.
 abbrev pub zeros32 : ℕ → ℕ → ℕ
