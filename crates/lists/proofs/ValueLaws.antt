@@ -10,6 +10,7 @@ use lib.Count.{count_leading_zeros, leading_le, leading_top, leading_length, lea
 use borrow.Author.Tests.{eqb-false, lt-leb}
 use Rattle.wire.proofs.BoolLaws.{both_true, whichever}
 use Rattle.wire.proofs.VarintLaws.{side}
+use mir.Val.{bool_byte}
 use Rattle.lists.specs.Values.{mark_bit, mark, marked, plain_end, marked_end, least_marked_rank, marked_rank_fits, valid, sparse_index, register, plain_rank, rank, largest_rank, lowered_rank, lowered_register, Pair, IndexPost, RankPost}
 
 -- ---- tests
@@ -410,6 +411,20 @@ lowered_register_le d index (suc r) = omega (arith, lowered_register_lem d index
 -- `bit` is the larger of the two precisions that the mark stands above.
 pub code_mark : (p s bit : ℕ) → Pair p s → bit ≡ mark_bit p s → (1 * 2 ^ bit) % 2 ^ 32 ≡ mark p s
 code_mark p s bit pair e = ap (λ (k : ℕ). (1 * 2 ^ k) % 2 ^ 32) e ∙ mark_shl p s pair
+
+-- A truth as a number, as the definitions have it.
+pub truth : (t : Bool) → bool_byte t ≡ cond t 1 0
+truth true = refl
+truth false = refl
+
+pub truth_le : (t : Bool) → bool_byte t ≤ 1
+truth_le true = le_refl 1
+truth_le false = zero-le
+
+pub truth_turned : (x y : ℕ) → bool_byte (leb x y) ≡ cond (ltb y x) 0 1
+truth_turned x y =
+    ⊎_elim (λ (h : y < x). ap bool_byte (lt-leb x y h) ∙ sym (ap (λ (t : Bool). cond t 0 1) (lt-ltb y x h)))
+    (λ (h : x ≤ y). ap bool_byte (le-leb x y h) ∙ sym (ap (λ (t : Bool). cond t 0 1) (le-ltb y x h))) (side y x)
 
 -- The least low six bits, and the end of the plain values by it.
 module _ (p s : ℕ) where
