@@ -342,8 +342,8 @@ going_stored {p} {s} {bytes} {at} {last} {plain} out k v h g =
     subst (λ (l : List ℕ). Going p s bytes l at last plain)
     (sym (ap (λ (n : ℕ). take n (set out k v)) (add-one k) ∙ take-suc-set out k v h)) g
 
-pub stored_stopped : {r : Read (List ℕ)} {e : DecodeError} (out : List ℕ) → r ≡ refused (decode_refusal e) → Decodes r (Err e) out
-stored_stopped {e = e} out f = subst (λ (x : Read (List ℕ)). Decodes x (Err e) out) (sym f) refl
+pub stored_stopped : {r : Read (List ℕ)} (e : DecodeError) (out : List ℕ) → r ≡ refused (decode_refusal e) → Decodes r (Err e) out
+stored_stopped e out f = subst (λ (x : Read (List ℕ)). Decodes x (Err e) out) (sym f) refl
 
 pub stored_end : {r : Read (List ℕ)} (out : List ℕ) (k : ℕ) → k ≤ length out → r ≡ got (take k out) [] → Decodes r (Ok k) out
 stored_end out k h e =

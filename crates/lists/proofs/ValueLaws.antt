@@ -1,6 +1,6 @@
 -- Laws of the values of a sparse list: the mark, validity, index, register and rank, and lowering. Of the other law files only MergeLaws unfolds one of
 -- their definitions, the mark, for the groups of 64 values that it makes.
-use Rattle.std.proofs.Common.{◌≡◌, ℕ, zero, suc, ◌+◌, ◌-◌, ◌*◌, ◌/◌, ◌%◌, ◌^◌, ◌<◌, ◌≤◌, Bool, true, false, not, ◌&&◌, eqb, ltb, leb, ◌⊎◌, sym, refl, ap, ◌∙◌, subst, inl, inr, ⊎_elim, true≢false, zero-le, le_refl, mul-le-mul_right, mod-lt, mod-eq_of_lt, zero-lt-suc, add_comm, arith, pow_pos, pow_mono, pow-add, shl_lt, shr_lt, ltb-true, le-ltb, lt-ltb, eq-eqb, ne_eqb, eqb-true, le-leb, leb-true}
+use Rattle.std.proofs.Common.{◌≡◌, ℕ, zero, suc, ◌+◌, ◌-◌, ◌*◌, ◌/◌, ◌%◌, ◌^◌, ◌<◌, ◌≤◌, Bool, true, false, cond, not, ◌&&◌, eqb, ltb, leb, ◌⊎◌, sym, refl, ap, ◌∙◌, subst, inl, inr, ⊎_elim, true≢false, zero-le, le_refl, mul-le-mul_right, mod-lt, mod-eq_of_lt, zero-lt-suc, add_comm, arith, pow_pos, pow_mono, pow-add, shl_lt, shr_lt, ltb-true, le-ltb, lt-ltb, eq-eqb, ne_eqb, eqb-true, le-leb, leb-true}
 use mathlib.Core.Bool.{and-true}
 use native.Mathlib.Nat.{div-eq_of_lt, le-max_left, le-max_right, max-le}
 use lib.Arith.{digits_lt, digits_div}

@@ -6,7 +6,7 @@ pub loop-pair-preserved : goal.loop-pair-preserved
 loop-pair-preserved c =
     let i = c.loop-pair.invariant in
     let s = rw c.in-Some.is at c.next.ensures.steps in
-    (s.0 ∙ i.0, i.1 ∙ rising_turn c.loop-pair.all (neighbours _ _ _ _ i.0 s.1.0 s.1.1 s.1.2.0))
+    (s.0 ∙ i.0, i.1 ∙ rising_turn c.loop-pair.all (neighbours _ _ _ _ i.0 s.1.0 s.1.1 s.1.2))
 
 pub returns : goal.returns
 returns c =
