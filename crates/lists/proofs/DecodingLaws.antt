@@ -1,18 +1,23 @@
 -- Laws of reading lists: a gap, one value after another, what an accepted list is, and that what is written is read back.
-use Rattle.std.proofs.Common.{◌≡◌, ℕ, zero, suc, ◌+◌, ◌-◌, ◌*◌, ◌%◌, ◌^◌, ◌<◌, ◌≤◌, Bool, true, false, cond, not, ◌&&◌, ◌||◌, eqb, ltb, leb, ◌⊎◌, List, [], ◌∷◌, ◌++◌, length, get_or, take, drop, set, sym, refl, ap, ◌∙◌, subst, ap₂, inl, inr, ⊎_elim, append_assoc, append-nil, le_trans, le_refl, lt_of_le_of_lt, add-one, arith, length-append, length-drop, drop_of_length-le, length-take-le, take-suc-set, pow_pos, ltb-false, ltb-true, le-ltb, lt-ltb, le-leb, leb-true, Ok, Err}
+use Rattle.std.proofs.Common.{◌≡◌, ℕ, zero, suc, ◌+◌, ◌-◌, ◌*◌, ◌%◌, ◌^◌, ◌<◌, ◌≤◌, Bool, true, false, cond, not, ◌&&◌, ◌||◌, eqb, ltb, leb, ◌⊎◌, List, [], ◌∷◌, ◌++◌, length, take, drop, set, sym, refl, ap, ◌∙◌, subst, ap₂, inl, inr, ⊎_elim, append_assoc, append-nil, le_trans, le_refl, lt_of_le_of_lt, add-one, arith, length-append, length-drop, drop_of_length-le, length-take-le, take-suc-set, pow_pos, ltb-false, ltb-true, le-ltb, lt-ltb, le-leb, leb-true, Result, Ok, Err, IsErrAnd}
 use mathlib.Core.Bool.{and_assoc, and-true}
 use borrow.Author.Tests.{not-false}
 use Rattle.wire.proofs.BoolLaws.{both, both_true, absorbed, whichever}
 use Rattle.wire.specs.Reading.{Read, got, refused, and_then}
 use Rattle.wire.specs.Varints.{varint_of, varint_bytes}
-use Rattle.wire.proofs.VarintLaws.{side, Begun, begun_long, begun_end, begun_last, begun_more, len_pos, there_and_back, short_varint}
+use Rattle.wire.proofs.VarintLaws.{side, Begun, begun_none, begun_long, begun_end, begun_last, begun_more, len_pos, there_and_back, short_varint}
 use Rattle.lists.specs.declared.decoding.DecodeError.{DecodeError}
-use Rattle.lists.specs.declared.decoding.DecodeError.TheVariants.{TruncatedGap, GapTooLong, InvalidValue}
+use Rattle.lists.specs.declared.decoding.DecodeError.TheVariants.{GapTooLong, InvalidValue}
 use Rattle.lists.specs.Values.{mark, marked, marked_end, least_marked_rank, marked_rank_fits, valid, Pair}
 use Rattle.lists.specs.Sorting.{not_before, ascends}
-use Rattle.lists.specs.Lists.{gap_answer, gap_of, GapPost, decode_refusal, refused_here, before, sums_of, step_of, NextValuePost, all_valid, no_plain, later_plain, ends_valid, decode_of, Decodes, encode_from, encode_list, written_from, written}
+use Rattle.lists.specs.Lists.{gap_answer, gap_of, BytePost, GapPost, decode_refusal, refused_here, before, sums_of, step_of, NextValuePost, all_valid, no_plain, later_plain, ends_valid, decode_of, Decodes, encode_from, encode_list, written_from, written}
 use Rattle.lists.proofs.UnfitRank.{unfit_rank}
 use Rattle.lists.proofs.ValueLaws.{decided, mark_64, mark_index, plain_end_mark, least_le, above_mark, small_valid, valid_plain, valid_index, valid_fits, marked_near, marked_fitting, valid_lt}
+
+-- What `?` hands on.
+pub handed_on : {T E : Type 0} (P : Result T E → Type 0) (r : Result T E) (e : E) → IsErrAnd r (λ (x : E). x ≡ e) → P (Err e) → P r
+handed_on P (Ok v) e h p = absurd h
+handed_on {E = E} P (Err x) e h p = subst (λ (y : E). P (Err y)) (sym h) p
 
 -- ---- a gap
 
@@ -27,28 +32,105 @@ gap_large : (v : ℕ) (rest : List ℕ) → 2 ^ 32 ≤ v → gap_answer (got v r
 gap_large v rest h = rw (le-ltb v (2 ^ 32) h)
 
 module _ {s : List ℕ} {start at w x : ℕ} (n : ℕ) (g : Begun 5 s start at (suc n) w x) where
-  pub gap_cut : length s ≤ at → GapPost s start (Err TruncatedGap)
-  gap_cut h = record { answer = gap_is (drop start s) (refused 3) (begun_end n g h); inside = tt }
-
-  pub gap_last : {b v : ℕ} → at < length s → b ≡ get_or s at 0 → b < 128 → v ≡ x + b * w → v < 2 ^ 32 → GapPost s start (Ok (v, at + 1))
-  gap_last {b} {v} inside e l f h =
+  gap_cut : {e : DecodeError} → BytePost s at (Err e) → GapPost s start (Err e)
+  gap_cut f =
       record {
-        answer =
-            sym (gap_small v (drop (at + 1) s) h)
-            ∙ gap_is (drop start s) (got v (drop (at + 1) s)) (begun_last n g inside e l ∙ ap (λ (y : ℕ). got y (drop (at + 1) s)) (sym f));
-        inside = (omega (arith, g.on), omega arith);
+        answer = ap (λ (e : DecodeError). refused (decode_refusal e)) f.1 ∙ gap_is (drop start s) (refused 3) (begun_end n g f.0);
+        inside = tt;
       }
 
+  module _ {b : ℕ} (f : BytePost s at (Ok b)) {next : ℕ} (on : next ≡ at + 1) where
+    gap_last : {v : ℕ} → b < 128 → v ≡ x + b * w → v < 2 ^ 32 → GapPost s start (Ok (v, next))
+    gap_last {v} l e h =
+        subst (λ (k : ℕ). GapPost s start (Ok (v, k))) (sym on)
+        (record {
+          answer =
+              sym (gap_small v (drop (at + 1) s) h)
+              ∙ gap_is (drop start s) (got v (drop (at + 1) s)) (begun_last n g f.0 f.1 l ∙ ap (λ (y : ℕ). got y (drop (at + 1) s)) (sym e));
+          inside = (omega (arith, g.on), omega (arith, f.0));
+        })
+
+    -- A byte that another follows has 128 too much.
+    gap_more : {z : ℕ} → 128 ≤ b → z ≡ x + (b - 128) * w → Begun 5 s start next n (w * 128) z
+    gap_more {z} l e =
+        subst (λ (k : ℕ). Begun 5 s start k n (w * 128) z) (sym on)
+        (begun_more n g f.0 f.1 l (e ∙ ap (λ (y : ℕ). x + y * w) (let h : b - 128 ≡ b % 128 = omega (arith, f.2) in h)))
+
 -- A fifth byte with a bit of f0: of 16 to 127 it makes a value of 2^32 or more, and of 128 or more one of more than five bytes.
-pub gap_long : {s : List ℕ} {start at x b : ℕ} → Begun 5 s start at 1 0x1000_0000 x → at < length s → b ≡ get_or s at 0 → 16 ≤ b → GapPost s start (Err GapTooLong)
-gap_long {s} {start} {at} {x} {b} g inside e h =
+gap_long : {s : List ℕ} {start at x b : ℕ} → Begun 5 s start at 1 0x1000_0000 x → BytePost s at (Ok b) → 16 ≤ b → GapPost s start (Err GapTooLong)
+gap_long {s} {start} {at} {x} {b} g f h =
     ⊎_elim
     (λ (l : b < 128).
-    long (sym (gap_large (x + b * 0x1000_0000) (drop (at + 1) s) (omega arith)) ∙ gap_is (drop start s) _ (begun_last 0 g inside e l)))
-    (λ (l : 128 ≤ b). long (gap_is (drop start s) (refused 4) (begun_long (begun_more 0 g inside e l refl)))) (side b 128)
+    long (sym (gap_large (x + b * 0x1000_0000) (drop (at + 1) s) (omega arith)) ∙ gap_is (drop start s) _ (begun_last 0 g f.0 f.1 l)))
+    (λ (l : 128 ≤ b). long (gap_is (drop start s) (refused 4) (begun_long (begun_more 0 g f.0 f.1 l refl)))) (side b 128)
   where
     long : refused 19 ≡ gap_of (drop start s) → GapPost s start (Err GapTooLong)
     long f = record { answer = f; inside = tt }
+
+-- The bytes of a gap one after the other, as the code sums them up.
+module _ (s : List ℕ) (at : ℕ) where
+  pub cut_1 : {e : DecodeError} → BytePost s at (Err e) → GapPost s at (Err e)
+  cut_1 = gap_cut 4 (begun_none 5 s at)
+
+  module _ (a : ℕ) (fa : BytePost s at (Ok a)) where
+    pub last_1 : a < 128 → GapPost s at (Ok (a, at + 1))
+    last_1 l = gap_last 4 (begun_none 5 s at) fa refl l (omega arith) (omega arith)
+
+    module _ (la : 128 ≤ a) where
+      past_1 : Begun 5 s at (at + 1) 4 128 (a - 128)
+      past_1 = gap_more 4 (begun_none 5 s at) fa refl la (omega arith)
+
+      pub cut_2 : {e : DecodeError} → BytePost s (at + 1) (Err e) → GapPost s at (Err e)
+      cut_2 = gap_cut 3 past_1
+
+      module _ (b : ℕ) (fb : BytePost s (at + 1) (Ok b)) where
+        abbrev two : ℕ
+        two = a - 128 + b * 128
+
+        pub last_2 : b < 128 → GapPost s at (Ok (two, at + 2))
+        last_2 l = gap_last 3 past_1 fb (omega arith) l (omega arith) (omega (arith, past_1.small))
+
+        module _ (lb : 128 ≤ b) where
+          past_2 : Begun 5 s at (at + 2) 3 16384 (two - 16384)
+          past_2 = gap_more 3 past_1 fb (omega arith) lb (omega arith)
+
+          pub cut_3 : {e : DecodeError} → BytePost s (at + 2) (Err e) → GapPost s at (Err e)
+          cut_3 = gap_cut 2 past_2
+
+          module _ (c : ℕ) (fc : BytePost s (at + 2) (Ok c)) where
+            abbrev three : ℕ
+            three = two - 16384 + c * 16384
+
+            pub last_3 : c < 128 → GapPost s at (Ok (three, at + 3))
+            last_3 l = gap_last 2 past_2 fc (omega arith) l (omega arith) (omega (arith, past_2.small))
+
+            module _ (lc : 128 ≤ c) where
+              past_3 : Begun 5 s at (at + 3) 2 2097152 (three - 2097152)
+              past_3 = gap_more 2 past_2 fc (omega arith) lc (omega arith)
+
+              pub cut_4 : {e : DecodeError} → BytePost s (at + 3) (Err e) → GapPost s at (Err e)
+              cut_4 = gap_cut 1 past_3
+
+              module _ (d : ℕ) (fd : BytePost s (at + 3) (Ok d)) where
+                abbrev four : ℕ
+                four = three - 2097152 + d * 2097152
+
+                pub last_4 : d < 128 → GapPost s at (Ok (four, at + 4))
+                last_4 l = gap_last 1 past_3 fd (omega arith) l (omega arith) (omega (arith, past_3.small))
+
+                module _ (ld : 128 ≤ d) where
+                  past_4 : Begun 5 s at (at + 4) 1 268435456 (four - 268435456)
+                  past_4 = gap_more 1 past_3 fd (omega arith) ld (omega arith)
+
+                  pub cut_5 : {e : DecodeError} → BytePost s (at + 4) (Err e) → GapPost s at (Err e)
+                  cut_5 = gap_cut 0 past_4
+
+                  module _ (e : ℕ) (fe : BytePost s (at + 4) (Ok e)) where
+                    pub last_5 : e < 16 → GapPost s at (Ok (four - 268435456 + e * 268435456, at + 5))
+                    last_5 l = gap_last 0 past_4 fe (omega arith) (omega arith) (omega arith) (omega (arith, past_4.small))
+
+                    pub long_5 : 16 ≤ e → GapPost s at (Err GapTooLong)
+                    long_5 l = gap_long past_4 fe l
 
 -- ---- tests
 

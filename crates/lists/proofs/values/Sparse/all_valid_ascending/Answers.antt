@@ -1,5 +1,6 @@
 -- The values are valid where those below the mark and those from it on are.
-use Rattle.std.proofs.Common.{◌≡◌, true, ℕ, List, ap, sym, subst, ◌∙◌}
+use Rattle.std.proofs.Common.{◌≡◌, true, ℕ, List, take, ap, sym, subst, ◌∙◌}
+use Rattle.lists.specs.Values.{mark}
 use Rattle.lists.specs.Sorting.{ascends}
 use Rattle.lists.specs.Order.{Below}
 use Rattle.lists.specs.Lists.{all_valid}
@@ -12,7 +13,7 @@ plain_valid-requires c =
     let a = c.args in
     let m = c.split_point.result in
     let front = sym c.split_at.ensures.front in
-    (subst (λ (l : List ℕ). ascends l ≡ true) front (ascends_take m a.l.now c.requires), subst (Below _) front (subst (λ (n : ℕ). Below n _) a.self.flag c.split_point.ensures.low))
+    (subst (λ (l : List ℕ). ascends l ≡ true) front (ascends_take m a.l.now c.requires), subst (Below (mark a.self.normal_precision a.self.sparse_precision)) front (subst (λ (n : ℕ). Below n (take m a.l.now)) a.self.flag c.split_point.ensures.low))
 
 pub returns-then-plain_valid : goal.returns-then-plain_valid
 returns-then-plain_valid c =

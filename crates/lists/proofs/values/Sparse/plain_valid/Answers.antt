@@ -5,7 +5,7 @@ use Rattle.lists.proofs.values.Sparse.plain_valid.Goals as goal
 
 pub returns-in-empty : goal.returns-in-empty
 returns-in-empty c = let a = c.args in
-    plain_none a.self.normal_precision a.self.sparse_precision a.l.now (omega (arith, c.in-empty.len_is))
+    plain_none a.self.normal_precision a.self.sparse_precision a.l.now (omega (arith, c.in-empty.len_below))
 
 pub returns-in-len1-up : goal.returns-in-len1-up
 returns-in-len1-up c = let a = c.args in
