@@ -16,9 +16,11 @@ pub struct Sparse {
 }
 
 impl Sparse {
+    ghost use Rattle.lists.specs.Pairs.{NewPost};
+
     pub fn new(normal_precision: u32, sparse_precision: u32) -> Sparse
         requires { Pair normal_precision sparse_precision }
-        ensures { (result.normal_precision ≡ normal_precision) × (result.sparse_precision ≡ sparse_precision) }
+        ensures { NewPost normal_precision sparse_precision result }
     {
         Sparse {
             normal_precision,
