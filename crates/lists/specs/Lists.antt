@@ -1,6 +1,6 @@
 -- Sparse lists: reading, writing, merging (document 01, module 4; Heule, Nunkesser and Hall 2013, section 5.3.2, "difference encoding" and
 -- "variable length encoding").
-use Rattle.std.specs.Prelude.{◌≡◌, ℕ, zero, suc, ◌+◌, ◌-◌, ◌*◌, ◌/◌, ◌%◌, ◌^◌, ◌<◌, ◌≤◌, Bool, true, false, cond, not, ◌&&◌, ◌||◌, List, [], ◌∷◌, ◌++◌, length, take, drop, get_or, ◌==◌, nat_lt, Result, Ok, Err, IsErrAnd}
+use Rattle.std.specs.Prelude.{◌≡◌, ℕ, zero, suc, ◌+◌, ◌-◌, ◌*◌, ◌/◌, ◌%◌, ◌^◌, ◌<◌, ◌≤◌, Bool, true, false, cond, not, ◌&&◌, ◌||◌, List, [], ◌∷◌, ◌++◌, length, take, drop, get_or, ◌==◌, nat_lt, Result, Ok, Err, IsOkAnd, IsErrAnd}
 use Rattle.wire.specs.Reading.{Read, got, refused, and_then}
 use Rattle.wire.specs.Varints.{varint_of, varint_bytes}
 use Rattle.lists.specs.declared.decoding.DecodeError.{DecodeError}
@@ -94,7 +94,7 @@ ends_valid p s plain last = valid p s plain && nat_lt last (marked_end p s)
 
 -- The count and the values in the first cells, or the refusal's number.
 abbrev pub Decodes : Read (List ℕ) → Result ℕ DecodeError → List ℕ → Type 0
-Decodes (got vs l) r out = (r ≡ Ok (length vs)) × (take (length vs) out ≡ vs)
+Decodes (got vs l) r out = IsOkAnd r (λ n. (n ≡ length vs) × (take n out ≡ vs))
 Decodes (refused n) r out = IsErrAnd r (λ e. decode_refusal e ≡ n)
 
 -- The cells past the values of a list are as they were. Where a list is refused every cell is free: they hold anything, as many as before.

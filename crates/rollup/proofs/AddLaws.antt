@@ -1,13 +1,12 @@
 -- Adding: the questions one after the other, and what a refusal and an accepted state leave. `add_outcome` is unfolded here alone.
-use Rattle.std.proofs.Common.{◌≡◌, ℕ, ◌*◌, ◌≤◌, Bool, true, false, List, [], length, take, sym, refl, ap, ◌∙◌, subst, ap₂, arith, length-take-le}
+use Rattle.std.proofs.Common.{◌≡◌, ℕ, ◌*◌, ◌≤◌, Bool, true, false, List, [], Result, Ok, Err, length, take, sym, refl, ap, ◌∙◌, subst, ap₂, arith, length-take-le}
 use mathlib.Core.List.Permᴰ
 use mathlib.Core.List.{Permᴰ}
 use Rattle.wire.specs.Reading.{Read, got, refused}
 use Rattle.wire.specs.State.{State, state_of}
 use Rattle.wire.specs.declared.state.Fields.{Fields}
-use Rattle.lists.specs.declared.decoding.Decoded.{Decoded}
-use Rattle.lists.specs.declared.decoding.Decoded.TheVariants.{Done, Refused}
-use Rattle.lists.specs.Lists.{Decodes}
+use Rattle.lists.specs.declared.decoding.DecodeError.{DecodeError}
+use Rattle.lists.specs.Lists.{Decodes, decode_refusal}
 use Rattle.lists.proofs.DecodingLaws.{accepted}
 use Rattle.rollup.specs.declared.judging.Judged.{Judged}
 use Rattle.rollup.specs.declared.judging.Judged.TheVariants.{State as JudgedState, Refused as JudgedRefused}
@@ -20,7 +19,7 @@ use Rattle.rollup.specs.Header.{data_of, list_of}
 use Rattle.rollup.specs.Taking.{After, path_of, taken_after, Shows, Free}
 use Rattle.rollup.specs.Adding.{Outcome, refuse, accept, numbers_of, state_numbers, accepted_after, judge, has_room, listed_in, question, opened, add_outcome, judge_answer, AddPost}
 use Rattle.rollup.specs.Judging.{judged_refusal, JudgePost, RoomPre, ListedPre}
-use Rattle.rollup.specs.Stages.{KnownDistinct, PathPre, TakePre, TakingPre, distinct_after, AcceptPre, decoded_refusal, AcceptPost, FittingPost}
+use Rattle.rollup.specs.Stages.{KnownDistinct, PathPre, TakePre, TakingPre, distinct_after, AcceptPre, AcceptPost, FittingPost}
 use Rattle.rollup.proofs.FitLaws.{fit_sparse}
 use Rattle.rollup.proofs.JudgeLaws.{judged_state, judged_short, judged_no, listed_pre}
 use Rattle.rollup.proofs.TakeLaws.{fit_kept, Ready, ready_takes}
@@ -167,21 +166,19 @@ module _ {a : Accumulator} {distinct : Bool} {m : Mem} {scratch : List ℕ} {st 
 -- ---- the stages, as the code has them
 
 -- A list that is refused, and one that is read.
-listed_no : (x : Read (List ℕ)) (n : ℕ) (out : List ℕ) → Decodes x (Refused n) out → x ≡ refused n
-listed_no (got vs l) n out e = absurd (let z : ◌≡◌ {A = ℕ} 0 1 = cc in omega arith)
-listed_no (refused k) n out e = ap refused (let z : k ≡ n = cc in z)
+listed_no : (x : Read (List ℕ)) (e : DecodeError) (out : List ℕ) → Decodes x (Err e) out → x ≡ refused (decode_refusal e)
+listed_no (got vs l) e out d = absurd d
+listed_no (refused k) e out d = ap refused (sym d)
 
 record Listed (x : Read (List ℕ)) (k : ℕ) (out : List ℕ) : Type 0 where
   rest : List ℕ
   read : x ≡ got (take k out) rest
   count : k ≡ length (take k out)
 
-listed_yes : (x : Read (List ℕ)) (k : ℕ) (out : List ℕ) → Decodes x (Done k) out → Listed x k out
+listed_yes : (x : Read (List ℕ)) (k : ℕ) (out : List ℕ) → Decodes x (Ok k) out → Listed x k out
 listed_yes (got vs l) k out e =
-    let n : k ≡ length vs = (let z : Done k ≡ Done (length vs) = e.0 in cc) in
-    let same : take k out ≡ vs = ap (λ (j : ℕ). take j out) n ∙ e.1 in
-    record { rest = l; read = ap (λ (v : List ℕ). got v l) (sym same); count = n ∙ ap length (sym same) }
-listed_yes (refused n) k out e = absurd (let z : ◌≡◌ {A = ℕ} 0 1 = cc in omega arith)
+    record { rest = l; read = ap (λ (v : List ℕ). got v l) (sym e.1); count = e.0 ∙ ap length (sym e.1) }
+listed_yes (refused n) k out e = absurd e
 
 module _ (a : Accumulator) (m : Mem) (room : ℕ) (bytes : List ℕ) (fit : fits a m ≡ true) where
   pub judge_stop : (r : Judged) (n k : ℕ) → r ≡ JudgedRefused k → JudgePost a bytes r → n ≡ judged_refusal r
@@ -208,17 +205,17 @@ module _ (a : Accumulator) (m : Mem) (room : ℕ) (bytes : List ℕ) (fit : fits
       pub list_pre : ListedPre (state_of bytes f) room
       list_pre = listed_pre a m room (state_of bytes f) state_judged there
 
-      pub list_stop : (d : Decoded) (n k : ℕ) (out : List ℕ) → d ≡ Refused k → Decodes (listed_in (state_of bytes f)) d out → n ≡ decoded_refusal d
-          → AddPost a m room bytes (record { answer = n; head = a }) m
-      list_stop d n k out g x h =
+      pub list_stop : (d : Result ℕ DecodeError) (n : ℕ) (e : DecodeError) (out : List ℕ) → d ≡ Err e → Decodes (listed_in (state_of bytes f)) d out
+          → n ≡ decode_refusal e → AddPost a m room bytes (record { answer = n; head = a }) m
+      list_stop d n e out g x h =
           refused_post a m room bytes n
           (add_listed a m room bytes (state_of bytes f) [] fit (sym is_state.answer) n there
-          (listed_no (listed_in (state_of bytes f)) k out (subst (λ (y : Decoded). Decodes (listed_in (state_of bytes f)) y out) g x)
-          ∙ ap refused (sym (h ∙ ap decoded_refusal g))))
+          (listed_no (listed_in (state_of bytes f)) e out (subst (λ (y : Result ℕ DecodeError). Decodes (listed_in (state_of bytes f)) y out) g x)
+          ∙ ap refused (sym h)))
 
-      module _ (d : Decoded) (k : ℕ) (out : List ℕ) (g : d ≡ Done k) (x : Decodes (listed_in (state_of bytes f)) d out) (same : length out ≡ room) where
+      module _ (d : Result ℕ DecodeError) (k : ℕ) (out : List ℕ) (g : d ≡ Ok k) (x : Decodes (listed_in (state_of bytes f)) d out) (same : length out ≡ room) where
         values : Listed (listed_in (state_of bytes f)) k out
-        values = listed_yes (listed_in (state_of bytes f)) k out (subst (λ (y : Decoded). Decodes (listed_in (state_of bytes f)) y out) g x)
+        values = listed_yes (listed_in (state_of bytes f)) k out (subst (λ (y : Result ℕ DecodeError). Decodes (listed_in (state_of bytes f)) y out) g x)
 
         list_end : listed_in (state_of bytes f) ≡ got (take k out) []
         list_end =

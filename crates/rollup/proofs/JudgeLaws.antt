@@ -1,5 +1,5 @@
 -- Questions 2 to 20, taken apart: what is known of a state that was accepted, fact by fact, and each question's answer on its own.
-use Rattle.std.proofs.Common.{◌≡◌, ℕ, zero, suc, ◌+◌, ◌*◌, ◌%◌, ◌^◌, ◌<◌, ◌≤◌, Bool, true, false, cond, not, ◌&&◌, ◌||◌, eqb, leb, List, [], ◌∷◌, length, sym, refl, ap, ◌∙◌, subst, ap₂, pos_of_ne-zero, arith, eq-eqb, ne_eqb, eqb-true, le-leb, leb-true}
+use Rattle.std.proofs.Common.{◌≡◌, ℕ, zero, suc, ◌+◌, ◌*◌, ◌%◌, ◌^◌, ◌<◌, ◌≤◌, Bool, true, false, cond, not, ◌&&◌, ◌||◌, eqb, leb, List, [], ◌∷◌, Result, Ok, length, sym, refl, ap, ◌∙◌, subst, ap₂, pos_of_ne-zero, arith, eq-eqb, ne_eqb, eqb-true, le-leb, leb-true}
 use mathlib.Core.Option.{Option, none, some}
 use borrow.Author.Tests.{lt-leb, eqb-false, not-true, not-false}
 use Rattle.wire.proofs.BoolLaws.{both, both_true, said_yes, said_no}
@@ -10,12 +10,12 @@ use Rattle.wire.specs.Layout.{CutReading, cut_refused, cut_before_hll}
 use Rattle.wire.specs.declared.state.Fields.{Fields}
 use Rattle.wire.specs.declared.state.Parsed.{Parsed}
 use Rattle.wire.specs.declared.state.Parsed.TheVariants.{Read as StateRead, Refused as StateRefused}
-use Rattle.lists.specs.Values.{Pair, NewPost, largest_rank}
+use Rattle.lists.specs.Values.{Pair, largest_rank}
+use Rattle.lists.specs.Pairs.{NewPost}
 use Rattle.lists.specs.Lists.{decode_of, Decodes}
 use Rattle.lists.specs.Registers.{register_bytes, registers_of, largest, Holds}
 use Rattle.lists.specs.declared.values.Sparse.{Sparse as Encoding}
-use Rattle.lists.specs.declared.decoding.Decoded.{Decoded}
-use Rattle.lists.specs.declared.decoding.Decoded.TheVariants.{Done}
+use Rattle.lists.specs.declared.decoding.DecodeError.{DecodeError}
 use Rattle.lists.proofs.RankLaws.{largest_least}
 use Rattle.lists.proofs.RegisterLaws.{count_is, row_holds, row_registers}
 use Rattle.lists.proofs.DecodingLaws.{decode_none}
@@ -569,14 +569,14 @@ none_is [] e = refl
 none_is (x ∷ l) e = absurd (let z : ⊥ = omega arith in z)
 
 module _ (st : State) (d out : List ℕ) (same : d ≡ list_of st) where
-  pub listed_none : length d ≡ 0 → Decodes (listed_in st) (Done 0) out
+  pub listed_none : length d ≡ 0 → Decodes (listed_in st) (Ok 0) out
   listed_none z =
-      subst (λ (r : Read (List ℕ)). Decodes r (Done 0) out)
+      subst (λ (r : Read (List ℕ)). Decodes r (Ok 0) out)
       (sym (ap (decode_of st.hll.precision st.hll.sparse_precision) (sym same ∙ none_is d z)
       ∙ decode_none st.hll.precision st.hll.sparse_precision))
       (refl, refl)
 
-  pub listed_some : (enc : Encoding) (r : Decoded) → NewPost st.hll.precision st.hll.sparse_precision enc
+  pub listed_some : (enc : Encoding) (r : Result ℕ DecodeError) → NewPost st.hll.precision st.hll.sparse_precision enc
       → Decodes (decode_of enc.normal_precision enc.sparse_precision d) r out → Decodes (listed_in st) r out
   listed_some enc r n x =
       subst (λ (v : Read (List ℕ)). Decodes v r out)

@@ -7,7 +7,7 @@ use lib.ListN.{length-replicate}
 use Rattle.wire.proofs.VarintLaws.{side}
 use Rattle.lists.specs.declared.values.Sparse.{Sparse as Encoding}
 use Rattle.lists.specs.declared.merging.Merged.{Merged}
-use Rattle.lists.specs.Values.{SparseFits, NewPost}
+use Rattle.lists.specs.Pairs.{NewPost}
 use Rattle.lists.specs.Sorting.{ascends, sort_of}
 use Rattle.lists.specs.Lists.{all_valid, written, merged, distinct_slots, MergePost, InsertPre, InsertPost}
 use Rattle.lists.specs.Merging.{MergePre}
@@ -178,13 +178,12 @@ module _ (vs ordered tail : List ℕ) (n : ℕ) (long : length vs ≡ n) (e : or
   sorted_front = take_at ordered tail n (ap length e ∙ length_sort vs ∙ long) ∙ e
 
   module _ (enc : Encoding) (kept : List ℕ) where
-    pub sorted_merge : (spare : List ℕ) → SparseFits enc → ascends kept ≡ true → all_valid enc.normal_precision enc.sparse_precision kept ≡ true
+    pub sorted_merge : (spare : List ℕ) → ascends kept ≡ true → all_valid enc.normal_precision enc.sparse_precision kept ≡ true
         → all_valid enc.normal_precision enc.sparse_precision vs ≡ true → length kept + n ≤ length spare → MergePre enc kept (take n (ordered ++ tail)) spare
-    sorted_merge spare fits order ok new room =
+    sorted_merge spare order ok new room =
         let p = enc.normal_precision in
         let s = enc.sparse_precision in
         record {
-          fits = fits;
           left_order = order;
           left_valid = ok;
           right_order = ap ascends sorted_front ∙ ascends_sort vs;
@@ -250,7 +249,7 @@ module _ (enc : Encoding) (sparse : List ℕ) (n : ℕ) (pending : List ℕ) (w 
           let kept_length = length-take-le n sparse (let h : n ≤ length sparse = omega (arith, pre.in_sparse) in h) in
           record {
             merge =
-                sorted_merge both ordered tail all both_length in_order enc (take n sparse) spare pre.fits pre.order pre.kept_valid
+                sorted_merge both ordered tail all both_length in_order enc (take n sparse) spare pre.order pre.kept_valid
                 (valid_append p s (take w pending) (take k scratch) pre.waiting_valid pre.incoming_valid)
                 (omega (arith, pre.in_scratch, pre.in_sparse, same, kept_length));
             room = omega (arith, pre.in_sparse, ap length (sorted_front both ordered tail all both_length in_order), length_sort both, both_length);
@@ -319,7 +318,6 @@ module _ {h : Accumulator} {registers sparse pending scratch : List ℕ} {k : �
   merge_join =
       let x = of_pair new (λ (p s : ℕ). ListReady p s h kept waiting vs) pre.ready in
       record {
-        fits = new.fits;
         order = x.order;
         kept_valid = x.kept_valid;
         waiting_valid = x.waiting_valid;
@@ -370,7 +368,6 @@ module _ {h : Accumulator} {registers sparse vs : List ℕ} (pre : InsertInPre h
   pub insert_into : InsertPre enc sparse h.sparse_len vs h.sparse_bytes
   insert_into =
       record {
-        fits = new.fits;
         room = pre.in_sparse;
         rises = pre.ready.order;
         distinct = of_pair new (λ (p s : ℕ). distinct_slots p s own ≡ true) pre.distinct;

@@ -2,14 +2,13 @@
 -- specs/Taking and specs/Adding.
 use Rattle.std.specs.Prelude.{◌≡◌, ℕ, ◌+◌, ◌*◌, ◌^◌, ◌<◌, ◌≤◌, min, Bool, true, false, List, [], length, take}
 use Rattle.wire.specs.State.{State}
-use Rattle.lists.specs.Values.{Pair, SparseFits, NewPost, largest_rank}
+use Rattle.lists.specs.Values.{Pair, largest_rank}
+use Rattle.lists.specs.Pairs.{NewPost}
 use Rattle.lists.specs.Sorting.{ascends}
 use Rattle.lists.specs.Lists.{all_valid, distinct_slots, written}
 use Rattle.lists.specs.Registers.{register_bytes, registers_of, with_registers, lowered_in_place, largest}
 use Rattle.lists.specs.declared.values.Sparse.{Sparse as Encoding}
 use Rattle.lists.specs.Merging.{MergePre}
-use Rattle.lists.specs.declared.decoding.Decoded.{Decoded}
-use Rattle.lists.specs.declared.decoding.Decoded.TheVariants.{Done, Refused}
 use Rattle.rollup.specs.declared.accumulator.Form.TheVariants.{Unstarted, Sparse, Dense}
 use Rattle.rollup.specs.declared.accumulator.Accumulator.{Accumulator}
 use Rattle.rollup.specs.declared.incoming.Incoming.{Incoming}
@@ -82,7 +81,6 @@ pub record BackPre (enc : Encoding) (sparse : List ℕ) (n : ℕ) (incoming scra
 
 -- The same with the values that wait and those that come in, which stand at the start of `scratch`.
 pub record JoinPre (enc : Encoding) (sparse : List ℕ) (n : ℕ) (pending : List ℕ) (w : ℕ) (scratch : List ℕ) (k : ℕ) : Type 0 where
-  pub fits : SparseFits enc
   pub order : ascends (take n sparse) ≡ true
   pub kept_valid : all_valid enc.normal_precision enc.sparse_precision (take n sparse) ≡ true
   pub waiting_valid : all_valid enc.normal_precision enc.sparse_precision (take w pending) ≡ true
@@ -127,7 +125,6 @@ pub record InsertInPre (h : Accumulator) (registers sparse vs : List ℕ) : Type
 
 -- Two lists that are to be set.
 pub record SetListsPre (enc : Encoding) (kept waiting bytes : List ℕ) : Type 0 where
-  pub fits : SparseFits enc
   pub kept_valid : all_valid enc.normal_precision enc.sparse_precision kept ≡ true
   pub waiting_valid : all_valid enc.normal_precision enc.sparse_precision waiting ≡ true
   pub room : register_bytes enc.normal_precision ≤ length bytes
@@ -243,11 +240,6 @@ pub record AcceptPre (a : Accumulator) (distinct : Bool) (m : Mem) (scratch : Li
   pub inside : k ≤ length scratch
   pub taken : TakePre a m (length scratch) (state_numbers st (take k scratch)) (data_of st) (take k scratch)
   pub known : KnownDistinct distinct a.precision a.sparse_precision (kept_of a m)
-
--- Document 01's number of a refusal.
-abbrev pub decoded_refusal : Decoded → ℕ
-decoded_refusal (Done k) = 0
-decoded_refusal (Refused n) = n
 
 -- What an accepted state leaves, and what is known afterwards.
 pub record AcceptPost (a : Accumulator) (m : Mem) (st : State) (vs : List ℕ) (r : AddedFitting) (n : Mem) : Type 0 where

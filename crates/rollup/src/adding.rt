@@ -5,14 +5,13 @@ ghost use Rattle.std.specs.Prelude.{◌≡◌, ℕ, ◌≤◌, List, length, tak
 ghost use Rattle.wire.specs.State.{state_of};
 ghost use Rattle.rollup.specs.Accumulator.{mem};
 ghost use Rattle.rollup.specs.Adding.{numbers_of, AddPost};
-ghost use Rattle.rollup.specs.Stages.{AcceptPre, decoded_refusal, distinct_after, Sound, AcceptPost, FittingPost};
+ghost use Rattle.rollup.specs.Stages.{AcceptPre, distinct_after, Sound, AcceptPost, FittingPost};
 
 use crate::accumulator::{Accumulator, Form, MAX_PENDING};
 use crate::incoming::Incoming;
 use crate::judging::Judged;
 use crate::paths::Path;
 use crate::{fitting, header, judging, paths, taking};
-use lists::decoding::Decoded;
 use wire::state;
 use wire::state::Fields;
 
@@ -30,16 +29,6 @@ pub struct AddedFitting {
     pub answer: u8,
     pub head: Accumulator,
     pub distinct: bool,
-}
-
-// Document 01's number of a refusal, for the `else` of a `let`.
-fn decoded_refusal(r: Decoded) -> u8
-    ensures { result ≡ decoded_refusal r }
-{
-    match r {
-        Decoded::Done(_) => 0,
-        Decoded::Refused(n) => n,
-    }
 }
 
 // The numbers of a state with so many list bytes and values.
@@ -145,13 +134,15 @@ pub fn add_fitting(
             distinct,
         };
     }
-    let read = judging::decode_listed(bytes, f, scratch);
-    let Decoded::Done(k) = read else {
-        return AddedFitting {
-            answer: decoded_refusal(read),
-            head: a,
-            distinct,
-        };
+    let k = match judging::decode_listed(bytes, f, scratch) {
+        Ok(k) => k,
+        Err(e) => {
+            return AddedFitting {
+                answer: e as u8,
+                head: a,
+                distinct,
+            };
+        }
     };
     accept(
         a, distinct, f, bytes, registers, sparse, pending, scratch, k,

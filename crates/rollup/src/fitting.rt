@@ -83,13 +83,13 @@ fn lists_fit(a: Accumulator, kept: &[u32], waiting: &[u32]) -> bool
     ensures { result ≡ lists_fit a kept.now waiting.now }
 {
     let enc = values::Sparse::new(a.precision, a.sparse_precision);
-    if !checking::all_valid(enc, waiting) {
+    if !enc.all_valid(waiting) {
         return false;
     }
     if !checking::is_ascending(kept) {
         return false;
     }
-    if !checking::all_valid_ascending(enc, kept) {
+    if !enc.all_valid_ascending(kept) {
         return false;
     }
     merging::written_len(kept) <= a.sparse_bytes

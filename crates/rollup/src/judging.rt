@@ -11,9 +11,9 @@ ghost use Rattle.rollup.specs.Judging.{HeaderPost, JudgePost, judged_refusal, pa
 
 use crate::accumulator::{Accumulator, Form};
 use crate::header;
-use lists::decoding::Decoded;
+use lists::decoding::DecodeError;
 use lists::values::Sparse;
-use lists::{decoding, registers};
+use lists::registers;
 use wire::state;
 use wire::state::{Fields, Parsed};
 
@@ -202,14 +202,14 @@ pub(crate) fn has_room(
 }
 
 // 18 to 20: the list's values, into `scratch`. A state without list bytes has no values, and its s may be one that no list can have.
-pub(crate) fn decode_listed(bytes: &[u8], f: Fields, scratch: &mut [u32]) -> Decoded
+pub(crate) fn decode_listed(bytes: &[u8], f: Fields, scratch: &mut [u32]) -> Result<usize, DecodeError>
     requires { ListedPre (state_of bytes.now f) (length scratch.old) }
     ensures { Decodes (listed_in (state_of bytes.now f)) result scratch.new }
 {
     let h = f.hll;
     let d = state::sparse_data(bytes, f);
     if d.len() == 0 {
-        return Decoded::Done(0);
+        return Ok(0);
     }
-    decoding::decode_validated_into(d, Sparse::new(h.precision, h.sparse_precision), scratch)
+    Sparse::new(h.precision, h.sparse_precision).decode_validated_into(d, scratch)
 }

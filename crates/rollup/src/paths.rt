@@ -7,7 +7,6 @@ ghost use Rattle.rollup.specs.Stages.{WaitPre, InsertsPre, PathPre};
 use crate::accumulator::{Accumulator, Form};
 use crate::fitting;
 use crate::incoming::Incoming;
-use lists::inserting;
 use lists::values::Sparse;
 
 // The paths of values at a list roll-up.
@@ -48,7 +47,7 @@ fn inserts(a: Accumulator, kept: &[u32], k: usize, distinct: bool) -> bool
     if distinct {
         return true;
     }
-    inserting::has_distinct_slots(Sparse::new(a.precision, a.sparse_precision), kept)
+    Sparse::new(a.precision, a.sparse_precision).has_distinct_slots(kept)
 }
 
 // The path of k values at a list roll-up.

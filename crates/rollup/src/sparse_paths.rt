@@ -16,7 +16,7 @@ use crate::paths::Path;
 use crate::{fitting, incoming};
 use lists::merging::Merged;
 use lists::values::Sparse;
-use lists::{inserting, merging, registers, sorting};
+use lists::{registers, sorting};
 
 // ---- heads
 
@@ -146,7 +146,7 @@ fn merge_back(
     requires { BackPre enc sparse.old n incoming.now scratch.old }
     ensures { MergePost enc.normal_precision enc.sparse_precision (take n sparse.old) incoming.now result sparse.new }
 {
-    let r = merging::merge_dedupe_into(enc, &sparse[..n], incoming, scratch);
+    let r = enc.merge_dedupe_into(&sparse[..n], incoming, scratch);
     sorting::copy_run(&scratch[..], 0, r.len, sparse, 0);
     r
 }
@@ -206,7 +206,11 @@ fn insert_in(
     ensures { (pending : List ℕ) → Shows (settle h registers.old (all_merged h (mem registers.old sparse.old pending) values.now) (h.sparse_bytes + written (all_merged h (mem registers.old sparse.old pending) values.now) - written (take h.sparse_len sparse.old))) result (mem registers.new sparse.new pending) }
 {
     let enc = Sparse::new(h.precision, h.sparse_precision);
-    let r = inserting::insert_dedupe(enc, sparse, h.sparse_len, values, h.sparse_bytes);
+    let kept = Merged {
+        len: h.sparse_len,
+        bytes: h.sparse_bytes,
+    };
+    let r = enc.insert_dedupe(sparse, kept, values);
     settle(h, enc, registers, &sparse[..r.len], r.bytes)
 }
 

@@ -17,7 +17,7 @@ use crate::header::{ENCODING_VERSION, HYPERLOGLOG_PLUS_UNIQUE};
 use lists::merging::Merged;
 use lists::registers::register_bytes;
 use lists::values::Sparse;
-use lists::{indices, merging, sorting};
+use lists::{merging, sorting};
 use wire::encoding;
 use wire::encoding::Encoded;
 use wire::state::{Fields, HllFields, Part};
@@ -94,7 +94,7 @@ fn flush_pending(
     ensures { FlushPost enc.normal_precision enc.sparse_precision kept.now pending.old w result pending.new scratch.new }
 {
     sorting::sort_runs(&mut pending[..w], scratch);
-    merging::merge_dedupe_into(enc, kept, &pending[..w], scratch)
+    enc.merge_dedupe_into(kept, &pending[..w], scratch)
 }
 
 // 17, and then the list: what is kept as it is where nothing waits, else all values as one list. Of the memory only the two lists count.
@@ -120,7 +120,7 @@ fn write_list(
     let list = &scratch[..u.len];
     write_values(
         a,
-        indices::distinct_indices(enc, list) as u32,
+        enc.distinct_indices(list) as u32,
         list,
         u.bytes,
         out,

@@ -4,6 +4,7 @@ use Rattle.wire.proofs.BoolLaws.{said_yes, said_no}
 use Rattle.rollup.specs.Accumulator.{Mem, mem}
 use Rattle.rollup.proofs.AddLaws.{judge_stop, room_pre, room_stop, list_pre, list_stop, accept_pre, all_accepted}
 use Rattle.std.proofs.lemmas.Bool.{not_from_false, not_from_true}
+use Rattle.lists.proofs.DecodingLaws.{error_number}
 use Rattle.rollup.proofs.adding.add_fitting.Goals as goal
 
 pub returns-in_default : goal.returns-in_default
@@ -34,22 +35,22 @@ returns-then-not-has_room c =
       sound = c.requires;
     }
 
-pub decode_listed-read-requires : goal.decode_listed-read-requires
-decode_listed-read-requires c =
+pub decode_listed-requires : goal.decode_listed-requires
+decode_listed-requires c =
     let m : Mem = mem c.args.registers.now c.args.sparse.now c.args.pending.now in
     let room : ℕ = length c.args.scratch.now in
     list_pre c.args.a m room c.args.bytes.now c.requires.fit c.judge-judged.result c.in-State.f c.in-State.is c.judge-judged.ensures
     (said_yes c.has_room.ensures (not_from_true _ c.if-not-has_room.false))
 
-pub returns-in_default-read : goal.returns-in_default-read
-returns-in_default-read c =
+pub returns-in-Err : goal.returns-in-Err
+returns-in-Err c =
     let m : Mem = mem c.args.registers.now c.args.sparse.now c.args.pending.now in
     let room : ℕ = length c.args.scratch.now in
     record {
       added =
           list_stop c.args.a m room c.args.bytes.now c.requires.fit c.judge-judged.result c.in-State.f c.in-State.is c.judge-judged.ensures
-          (said_yes c.has_room.ensures (not_from_true _ c.if-not-has_room.false)) c.decode_listed-read.result c.decoded_refusal.result _ c.decode_listed-read.new.scratch c.in_default-read.is
-          c.decode_listed-read.ensures c.decoded_refusal.ensures;
+          (said_yes c.has_room.ensures (not_from_true _ c.if-not-has_room.false)) c.decode_listed.result _ c.in-Err.e c.decode_listed.new.scratch c.in-Err.is
+          c.decode_listed.ensures (error_number c.in-Err.e);
       sound = c.requires;
     }
 
@@ -58,14 +59,14 @@ accept-requires c =
     let m : Mem = mem c.args.registers.now c.args.sparse.now c.args.pending.now in
     let room : ℕ = length c.args.scratch.now in
     accept_pre c.args.a m room c.args.bytes.now c.requires.fit c.judge-judged.result c.in-State.f c.in-State.is c.judge-judged.ensures
-    (said_yes c.has_room.ensures (not_from_true _ c.if-not-has_room.false)) c.decode_listed-read.result c.in-Done.k c.decode_listed-read.new.scratch c.in-Done.is c.decode_listed-read.ensures
-    c.decode_listed-read.auto.scratch c.args.distinct c.requires.known
+    (said_yes c.has_room.ensures (not_from_true _ c.if-not-has_room.false)) c.decode_listed.result c.in-Ok.k c.decode_listed.new.scratch c.in-Ok.is c.decode_listed.ensures
+    c.decode_listed.auto.scratch c.args.distinct c.requires.known
 
 pub returns : goal.returns
 returns c =
     let m : Mem = mem c.args.registers.now c.args.sparse.now c.args.pending.now in
     let room : ℕ = length c.args.scratch.now in
     all_accepted c.args.a m room c.args.bytes.now c.requires.fit c.judge-judged.result c.in-State.f c.in-State.is c.judge-judged.ensures
-    (said_yes c.has_room.ensures (not_from_true _ c.if-not-has_room.false)) c.decode_listed-read.result c.in-Done.k c.decode_listed-read.new.scratch c.in-Done.is c.decode_listed-read.ensures
-    c.decode_listed-read.auto.scratch c.accept.result _ c.accept.ensures
+    (said_yes c.has_room.ensures (not_from_true _ c.if-not-has_room.false)) c.decode_listed.result c.in-Ok.k c.decode_listed.new.scratch c.in-Ok.is c.decode_listed.ensures
+    c.decode_listed.auto.scratch c.accept.result _ c.accept.ensures
     (record { registers = c.accept.auto.registers; sparse = c.accept.auto.sparse; pending = c.accept.auto.pending })

@@ -16,7 +16,7 @@ returns-then-not-is_ascending c = lists_no c.args.a c.args.kept.now c.args.waiti
     true≢false (sym x.order ∙ said_no c.is_ascending.ensures (not_from_false _ c.if-not-is_ascending.true)))
 
 pub all_valid_ascending-requires : goal.all_valid_ascending-requires
-all_valid_ascending-requires c = (c.new-enc.ensures.fits, said_yes c.is_ascending.ensures (not_from_true _ c.if-not-is_ascending.false))
+all_valid_ascending-requires c = said_yes c.is_ascending.ensures (not_from_true _ c.if-not-is_ascending.false)
 
 pub returns-then-not-all_valid_ascending : goal.returns-then-not-all_valid_ascending
 returns-then-not-all_valid_ascending c = lists_no c.args.a c.args.kept.now c.args.waiting.now

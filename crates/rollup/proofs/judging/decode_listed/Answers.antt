@@ -14,7 +14,7 @@ new-requires c = c.requires.pair (let e = ap length c.sparse_data-d.ensures in o
 pub decode_validated_into-requires : goal.decode_validated_into-requires
 decode_validated_into-requires c = let e = ap length c.sparse_data-d.ensures in
     let h = c.requires.space in
-    record { sparse_fits = c.new.ensures.fits; bytes_in_bounds = omega arith }
+    omega arith
 
 pub returns : goal.returns
 returns c = listed_some (state_of c.args.bytes.now c.args.f) c.sparse_data-d.result.now _

@@ -15,7 +15,7 @@ pub returns-then-distinct : goal.returns-then-distinct
 returns-then-distinct c = insert_slots c.args.a c.args.kept.now c.args.k c.if-k-gt16.false c.if-a-k.false true (sym (c.requires.known c.if-distinct.true))
 
 pub has_distinct_slots-requires : goal.has_distinct_slots-requires
-has_distinct_slots-requires c = (c.new.ensures.fits, c.requires.order, of_pair c.new.ensures (λ (p s : ℕ). all_valid p s c.args.kept.now ≡ true) c.requires.all)
+has_distinct_slots-requires c = (c.requires.order, of_pair c.new.ensures (λ (p s : ℕ). all_valid p s c.args.kept.now ≡ true) c.requires.all)
 
 pub returns : goal.returns
 returns c = let a = c.args in

@@ -10,7 +10,6 @@ pub set_lists-requires : goal.set_lists-requires
 set_lists-requires c = let a = c.args in
     let n = c.new-enc.ensures in
     record {
-      fits = n.fits;
       kept_valid = of_pair n (λ (p s : ℕ). all_valid p s a.kept.now ≡ true) c.requires.kept_valid;
       waiting_valid = of_pair n (λ (p s : ℕ). all_valid p s a.waiting.now ≡ true) c.requires.waiting_valid;
       room = of_pair n (λ (p s : ℕ). register_bytes p ≤ length a.registers.now) c.requires.room;
@@ -22,8 +21,8 @@ max_into-requires c = let a = c.args in
     let room = of_pair n (λ (p s : ℕ). register_bytes p ≤ length a.registers.now) c.requires.room in
     let size = of_pair n (λ (p s : ℕ). length a.row.now ≡ 2 ^ p) c.requires.size in
     record {
-      into = record { high = n.fits.pair.high; room = set_room c.new-enc.result.normal_precision c.new-enc.result.sparse_precision a.registers.now room (a.kept.now ++ a.waiting.now) _ c.set_lists.ensures };
-      from = record { high = n.fits.pair.high; room = row_holds c.new-enc.result.normal_precision a.row.now size };
+      into = record { high = c.new-enc.result.pair.high; room = set_room c.new-enc.result.normal_precision c.new-enc.result.sparse_precision a.registers.now room (a.kept.now ++ a.waiting.now) _ c.set_lists.ensures };
+      from = record { high = c.new-enc.result.pair.high; room = row_holds c.new-enc.result.normal_precision a.row.now size };
     }
 
 pub returns : goal.returns
