@@ -2,7 +2,7 @@
 use Rattle.std.specs.Prelude.{◌≡◌, ℕ, zero, suc, ◌+◌, ◌-◌, ◌*◌, ◌/◌, ◌^◌, ◌<◌, ◌≤◌, max, true, cond, List, [], ◌∷◌, ◌++◌, length, take, drop, replicate, ◌==◌, nat_lt, slice_index, slice_index_or, slice_set}
 use Rattle.std.specs.Int.Count.{count_leading_zeros}
 use Rattle.lists.specs.declared.values.Sparse.{Sparse}
-use Rattle.lists.specs.Values.{SparseFits, valid, register, rank, lowered_rank, lowered_register}
+use Rattle.lists.specs.Values.{valid, register, rank, lowered_rank, lowered_register}
 use Rattle.lists.specs.Lists.{all_valid}
 
 -- ---- how registers lie in memory: these three alone know
@@ -165,13 +165,11 @@ offset_rank d o = cond (nat_lt o (2 ^ d)) (1 + count_leading_zeros d o) 0
 
 -- A value that is to raise its register, of 2^p.
 pub record SetPre (enc : Sparse) (v : ℕ) (bytes : List ℕ) : Type 0 where
-  pub fits : SparseFits enc
   pub ok : valid enc.normal_precision enc.sparse_precision v ≡ true
   pub room : register_bytes enc.normal_precision ≤ length bytes
 
 -- The same d bits lower, of 2^(p-d).
 pub record SetLowerPre (enc : Sparse) (d v : ℕ) (bytes : List ℕ) : Type 0 where
-  pub fits : SparseFits enc
   pub ok : valid enc.normal_precision enc.sparse_precision v ≡ true
   pub few : d ≤ 20
   pub fewer : d ≤ enc.normal_precision
@@ -179,12 +177,10 @@ pub record SetLowerPre (enc : Sparse) (d v : ℕ) (bytes : List ℕ) : Type 0 wh
 
 -- And those of a list.
 pub record SetListPre (enc : Sparse) (list bytes : List ℕ) : Type 0 where
-  pub fits : SparseFits enc
   pub ok : all_valid enc.normal_precision enc.sparse_precision list ≡ true
   pub room : register_bytes enc.normal_precision ≤ length bytes
 
 pub record SetListLowerPre (enc : Sparse) (d : ℕ) (list bytes : List ℕ) : Type 0 where
-  pub fits : SparseFits enc
   pub ok : all_valid enc.normal_precision enc.sparse_precision list ≡ true
   pub few : d ≤ 20
   pub fewer : d ≤ enc.normal_precision

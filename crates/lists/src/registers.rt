@@ -222,8 +222,8 @@ pub fn set_register(registers: &mut [u8], enc: Sparse, v: u32)
     requires { SetPre enc v registers.old }
     ensures { registers.new ≡ with_registers enc.normal_precision (raise (registers_of enc.normal_precision registers.old) (register enc.normal_precision enc.sparse_precision v) (rank enc.normal_precision enc.sparse_precision v)) registers.old }
 {
-    let i = values::decode_normal_index(enc, v);
-    let r = values::decode_normal_rho_w(enc, v);
+    let i = enc.decode_normal_index(v);
+    let r = enc.decode_normal_rho_w(v);
     raise_register(registers, i as usize, r);
 }
 
@@ -232,8 +232,8 @@ fn set_register_lower(registers: &mut [u8], enc: Sparse, d: u32, v: u32)
     requires { SetLowerPre enc d v registers.old }
     ensures { registers.new ≡ with_registers (enc.normal_precision - d) (raise (registers_of (enc.normal_precision - d) registers.old) (register enc.normal_precision enc.sparse_precision v / 2 ^ d) (lowered_rank d (register enc.normal_precision enc.sparse_precision v) (rank enc.normal_precision enc.sparse_precision v))) registers.old }
 {
-    let i = values::decode_normal_index(enc, v);
-    let r = values::downgrade_rho_w(i, values::decode_normal_rho_w(enc, v), d);
+    let i = enc.decode_normal_index(v);
+    let r = values::downgrade_rho_w(i, enc.decode_normal_rho_w(v), d);
     raise_register(registers, (i >> d) as usize, r);
 }
 

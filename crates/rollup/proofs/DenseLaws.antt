@@ -4,7 +4,7 @@ use mathlib.Core.List.{Permᴰ}
 use native.Mathlib.Nat.{min-le_left, min-le_right}
 use lib.ListN.{length-replicate}
 use Rattle.lists.specs.declared.values.Sparse.{Sparse as Encoding}
-use Rattle.lists.specs.Values.{NewPost}
+use Rattle.lists.specs.Pairs.{NewPost}
 use Rattle.lists.specs.Lists.{all_valid}
 use Rattle.lists.specs.Registers.{register_bytes, registers_of, with_registers, raised_by, raised_lower, larger, lowered, largest, lowered_in_place, BothHold, LowerPre, DowngradePre, SetListPre, SetListLowerPre}
 use Rattle.lists.proofs.RegisterLaws.{with_room, of_length, with_of, row_holds, row_registers, fewer_bytes, of_front, with_front}
@@ -113,7 +113,6 @@ module _ (q p s : ℕ) (vs registers : List ℕ) (pre : RaiseByListPre q p s vs 
   pub list_lower : q < p → SetListLowerPre enc (p - q) vs registers
   list_lower h =
       record {
-        fits = new.fits;
         ok = list_valid;
         few = omega (arith, pre.low, pre.pair.high);
         fewer = omega (arith, new.normal);
@@ -138,7 +137,6 @@ module _ (q p s : ℕ) (vs registers : List ℕ) (pre : RaiseByListPre q p s vs 
   pub list_set : p ≤ q → SetListPre enc vs registers
   list_set h =
       record {
-        fits = new.fits;
         ok = list_valid;
         room = subst (λ (n : ℕ). register_bytes n ≤ length registers) (sym (list_same h)) pre.room;
       }

@@ -7,7 +7,8 @@ use Rattle.lists.proofs.DecodingLaws.{accepted, decode_encode}
 use Rattle.lists.proofs.MergeLaws.{length_encode}
 use Rattle.lists.proofs.RegisterLaws.{count_is}
 use Rattle.lists.specs.declared.values.Sparse.{Sparse as Encoding}
-use Rattle.lists.specs.Values.{Pair, NewPost, largest_rank}
+use Rattle.lists.specs.Values.{Pair, largest_rank}
+use Rattle.lists.specs.Pairs.{NewPost}
 use Rattle.lists.specs.Sorting.{ascends}
 use Rattle.lists.specs.Lists.{all_valid, encode_list, written}
 use Rattle.lists.specs.Registers.{register_bytes, registers_of, largest}

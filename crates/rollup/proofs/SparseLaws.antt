@@ -7,7 +7,7 @@ use lib.ListN.{length-replicate}
 use Rattle.wire.proofs.VarintLaws.{side}
 use Rattle.lists.specs.declared.values.Sparse.{Sparse as Encoding}
 use Rattle.lists.specs.declared.merging.Merged.{Merged}
-use Rattle.lists.specs.Values.{SparseFits, NewPost}
+use Rattle.lists.specs.Pairs.{NewPost}
 use Rattle.lists.specs.Sorting.{ascends, sort_of}
 use Rattle.lists.specs.Lists.{all_valid, written, merged, distinct_slots, MergePost, InsertPre, InsertPost}
 use Rattle.lists.specs.Merging.{MergePre}
@@ -171,13 +171,12 @@ module _ (vs ordered tail : List ℕ) (n : ℕ) (long : length vs ≡ n) (e : or
   sorted_front = take_at ordered tail n (ap length e ∙ length_sort vs ∙ long) ∙ e
 
   module _ (enc : Encoding) (kept : List ℕ) where
-    pub sorted_merge : (spare : List ℕ) → SparseFits enc → ascends kept ≡ true → all_valid enc.normal_precision enc.sparse_precision kept ≡ true
+    pub sorted_merge : (spare : List ℕ) → ascends kept ≡ true → all_valid enc.normal_precision enc.sparse_precision kept ≡ true
         → all_valid enc.normal_precision enc.sparse_precision vs ≡ true → length kept + n ≤ length spare → MergePre enc kept (take n (ordered ++ tail)) spare
-    sorted_merge spare fits order ok new room =
+    sorted_merge spare order ok new room =
         let p = enc.normal_precision in
         let s = enc.sparse_precision in
         record {
-          fits = fits;
           left_order = order;
           left_valid = ok;
           right_order = ap ascends sorted_front ∙ ascends_sort vs;
@@ -313,7 +312,6 @@ module _ {h : Accumulator} {registers sparse pending scratch : List ℕ} {k : �
   merge_join =
       let x = of_pair new (λ (p s : ℕ). ListReady p s h kept waiting vs) pre.ready in
       record {
-        fits = new.fits;
         order = x.order;
         kept_valid = x.kept_valid;
         waiting_valid = x.waiting_valid;

@@ -17,7 +17,7 @@ use Rattle.wire.proofs.VarintLaws.{side}
 use Rattle.wire.proofs.EncodingLaws.{head_any, head_tail, head_length, hll_head_le, outer_numbers_le, prefix_le, encode_yes, encode_no}
 use Rattle.lists.specs.declared.values.Sparse.{Sparse as Encoding}
 use Rattle.lists.specs.declared.merging.Merged.{Merged}
-use Rattle.lists.specs.Values.{NewPost}
+use Rattle.lists.specs.Pairs.{NewPost}
 use Rattle.lists.specs.Sorting.{ascends, sort_of}
 use Rattle.lists.specs.Lists.{all_valid, written, encode_list, merged, distinct_slots, distinct_indices, IndexPre, MergePost}
 use Rattle.lists.specs.Merging.{EncodePre, MergePre}
@@ -356,7 +356,6 @@ module _ (a : Accumulator) (sparse pending : List ℕ) (form : a.form ≡ Sparse
         pub flush_pre : (scratch : List ℕ) → length scratch ≡ room → FlushPre enc (take a.sparse_len sparse) pending a.pending_len scratch
         flush_pre scratch e =
             record {
-              fits = new.fits;
               order = list_fit.order;
               kept_valid = of_pair new (λ (p s : ℕ). all_valid p s (take a.sparse_len sparse) ≡ true) list_fit.kept_valid;
               waiting_valid = of_pair new (λ (p s : ℕ). all_valid p s (take a.pending_len pending) ≡ true) list_fit.waiting_valid;
@@ -390,7 +389,6 @@ module _ (a : Accumulator) (sparse pending : List ℕ) (form : a.form ≡ Sparse
               let p = enc.normal_precision in
               let s = enc.sparse_precision in
               record {
-                fits = new.fits;
                 rises = ap ascends x.merge.values ∙ merged_ascends p s kept waiting;
                 allowed =
                     ap (all_valid p s) x.merge.values
@@ -445,7 +443,7 @@ module _ (enc : Encoding) (kept pending : List ℕ) (w : ℕ) (scratch : List �
 
     pub flush_merge : (spare : List ℕ) → length spare ≡ length scratch → MergePre enc kept (take w (ordered ++ tail)) spare
     flush_merge spare same =
-        sorted_merge (take w pending) ordered tail w waiting_length e enc kept spare pre.fits pre.order pre.kept_valid pre.waiting_valid
+        sorted_merge (take w pending) ordered tail w waiting_length e enc kept spare pre.order pre.kept_valid pre.waiting_valid
         (omega (arith, pre.room, same))
 
     pub flush_post : (r : Merged) (after : List ℕ) → MergePost enc.normal_precision enc.sparse_precision kept (take w (ordered ++ tail)) r after

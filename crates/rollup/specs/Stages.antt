@@ -2,7 +2,8 @@
 -- specs/Taking and specs/Adding.
 use Rattle.std.specs.Prelude.{◌≡◌, ℕ, Option, Some, None, ◌+◌, ◌*◌, ◌^◌, ◌<◌, ◌≤◌, min, Bool, true, false, List, [], length, take}
 use Rattle.wire.specs.State.{State}
-use Rattle.lists.specs.Values.{Pair, SparseFits, NewPost, largest_rank}
+use Rattle.lists.specs.Values.{Pair, largest_rank}
+use Rattle.lists.specs.Pairs.{NewPost}
 use Rattle.lists.specs.Sorting.{ascends}
 use Rattle.lists.specs.Lists.{all_valid, distinct_slots, written}
 use Rattle.lists.specs.Registers.{register_bytes, registers_of, with_registers, lowered_in_place, largest}
@@ -80,7 +81,6 @@ pub record BackPre (enc : Encoding) (sparse : List ℕ) (n : ℕ) (incoming scra
 
 -- The same with the values that wait and those that come in, which stand at the start of `scratch`.
 pub record JoinPre (enc : Encoding) (sparse : List ℕ) (n : ℕ) (pending : List ℕ) (w : ℕ) (scratch : List ℕ) (k : ℕ) : Type 0 where
-  pub fits : SparseFits enc
   pub order : ascends (take n sparse) ≡ true
   pub kept_valid : all_valid enc.normal_precision enc.sparse_precision (take n sparse) ≡ true
   pub waiting_valid : all_valid enc.normal_precision enc.sparse_precision (take w pending) ≡ true
@@ -126,7 +126,6 @@ pub record InsertInPre (h : Accumulator) (registers sparse scratch : List ℕ) (
 
 -- Two lists that are to be set.
 pub record SetListsPre (enc : Encoding) (kept waiting bytes : List ℕ) : Type 0 where
-  pub fits : SparseFits enc
   pub kept_valid : all_valid enc.normal_precision enc.sparse_precision kept ≡ true
   pub waiting_valid : all_valid enc.normal_precision enc.sparse_precision waiting ≡ true
   pub room : register_bytes enc.normal_precision ≤ length bytes

@@ -5,7 +5,6 @@ use Rattle.wire.specs.declared.state.Fields.{Fields}
 use Rattle.wire.specs.Encoding.{Output, encode_step}
 use Rattle.lists.specs.declared.values.Sparse.{Sparse as Encoding}
 use Rattle.lists.specs.declared.merging.Merged.{Merged}
-use Rattle.lists.specs.Values.{SparseFits}
 use Rattle.lists.specs.Sorting.{ascends, sort_of}
 use Rattle.lists.specs.Lists.{all_valid, written, encode_list, MergePost}
 use Rattle.rollup.specs.declared.accumulator.Accumulator.{Accumulator}
@@ -54,7 +53,6 @@ pub record ValuesPre (a : Accumulator) (l : List ℕ) (bytes : ℕ) : Type 0 whe
 
 -- The values kept, and the first w of `pending`, can be merged into `scratch`.
 pub record FlushPre (enc : Encoding) (kept pending : List ℕ) (w : ℕ) (scratch : List ℕ) : Type 0 where
-  pub fits : SparseFits enc
   pub order : ascends kept ≡ true
   pub kept_valid : all_valid enc.normal_precision enc.sparse_precision kept ≡ true
   pub waiting_valid : all_valid enc.normal_precision enc.sparse_precision (take w pending) ≡ true

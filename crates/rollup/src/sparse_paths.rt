@@ -18,7 +18,7 @@ use crate::memory::{Memory, append};
 use crate::paths::Path;
 use lists::merging::Merged;
 use lists::values::Sparse;
-use lists::{inserting, merging, registers, sorting};
+use lists::{registers, sorting};
 
 // ---- registers
 

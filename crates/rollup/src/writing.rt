@@ -19,7 +19,7 @@ use crate::refusal::Refusal;
 use lists::merging::Merged;
 use lists::registers::register_bytes;
 use lists::values::Sparse;
-use lists::{indices, merging, sorting};
+use lists::{merging, sorting};
 use wire::encoding;
 use wire::encoding::Encoded;
 use wire::state::{Fields, HllFields, Part};
@@ -177,5 +177,5 @@ fn flush_pending(
     ensures { FlushPost enc.normal_precision enc.sparse_precision kept.now pending.old w result pending.new scratch.new }
 {
     sorting::sort_runs(&mut pending[..w], scratch);
-    merging::merge_dedupe_into(enc, kept, &pending[..w], scratch)
+    enc.merge_dedupe_into(kept, &pending[..w], scratch)
 }

@@ -11,7 +11,6 @@ loop-i-init c = setting_none c.args.enc.normal_precision _ _ _ c.args.registers.
 pub set_register-requires : goal.set_register-requires
 set_register-requires c = let l = c.loop-i in
     record {
-      fits = c.requires.fits;
       ok = valid_at c.args.enc.normal_precision c.args.enc.sparse_precision c.args.list.now l.i c.requires.ok c.loop-i-test.true;
       room = setting_room c.args.enc.normal_precision _ _ _ _ _ l.i l.invariant;
     }

@@ -11,7 +11,6 @@ loop-i-init c = setting_none (c.args.enc.normal_precision - c.args.d) _ _ _ c.ar
 pub set_register_lower-requires : goal.set_register_lower-requires
 set_register_lower-requires c = let l = c.loop-i in
     record {
-      fits = c.requires.fits;
       ok = valid_at c.args.enc.normal_precision c.args.enc.sparse_precision c.args.list.now l.i c.requires.ok c.loop-i-test.true;
       few = c.requires.few;
       fewer = c.requires.fewer;

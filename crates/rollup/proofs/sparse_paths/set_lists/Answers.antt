@@ -3,11 +3,10 @@ use Rattle.rollup.proofs.SparseLaws.{set_room, both_set}
 use Rattle.rollup.proofs.sparse_paths.set_lists.Goals as goal
 
 pub set_list-requires : goal.set_list-requires
-set_list-requires c = record { fits = c.requires.fits; ok = c.requires.kept_valid; room = c.requires.room }
+set_list-requires c = record { ok = c.requires.kept_valid; room = c.requires.room }
 
 pub set_registers-requires : goal.set_registers-requires
 set_registers-requires c = record {
-  fits = c.requires.fits;
   ok = c.requires.waiting_valid;
   room = set_room c.args.enc.normal_precision c.args.enc.sparse_precision c.args.registers.now c.requires.room c.args.kept.now _ c.set_list.ensures;
 }
