@@ -2,16 +2,15 @@
 use Rattle.std.proofs.Common.{◌≡◌, ℕ, suc, ◌+◌, ◌-◌, ◌*◌, ◌/◌, ◌%◌, ◌^◌, ◌<◌, ◌≤◌, max, Bool, cond, not, eqb, ◌⊎◌, List, [], ◌∷◌, ◌++◌, length, get_or, take, drop, set, replicate, sym, refl, ap, ◌∙◌, subst, ap₂, inl, inr, ⊎_elim, append_assoc, append-nil, zero-le, le_trans, le_of_eq, mul-le-mul_right, mod-lt, suc-mul, eq-zero-or-pos, le_antisymm, pos_of_ne-zero, pow-suc, add-sub_cancel, add-one, arith, length-append, length-drop, length-set, take-append-drop, drop_of_length-le, length-take-le, get_or-drop, take_all, drop-cons, get_or-take, take-suc, take_at, get_or-append-add, drop_at, pow_pos, pow_mono, pow-add, shl_exact, shr_lt, le-ltb, lt-ltb, eq-eqb, ne_eqb}
 use native.Mathlib.Nat.{max-zero, mul-mod_left}
 use borrow.Rule.Slice.PartMut.{put_mid, Post-is}
-use mir.Val.{bool_byte}
-use lib.ListN.{length-replicate, get_or-append}
+use Rattle.std.specs.Int.{from_bool}
+use lib.ListN.{get_or-append}
 use lib.Seq.{set_at, set-append_left}
-use lib.Arith.{lt_of_le-ne}
 use lib.Pow.{shl-shr, shr_le, split, high, low}
 use lib.Count.{count_leading_zeros, leading_length, leading_unique}
 use Rattle.wire.proofs.VarintLaws.{side}
 use Rattle.lists.proofs.ValueLaws.{wider, lowered_zero, lowered_bits, lowered_bits_le, lowered_register_lem, lowered_register_le, register_zero}
-use Rattle.lists.proofs.RankLaws.{zeros_at, max_assoc, larger_length, larger_at, largest_upper, lowered_length, lowered_at_lem, lowered_upper, lowered_least, lowered_agree, raised_with, lower_index, lower_rank}
-use Rattle.lists.specs.Values.{register, rank, IndexPost, RankPost, lowered_rank, lowered_register}
+use Rattle.lists.proofs.RankLaws.{max_assoc, larger_length, larger_at, largest_upper, lowered_length, lowered_at_lem, lowered_upper, lowered_least, lowered_agree, raised_with, lower_index, lower_rank}
+use Rattle.lists.specs.Values.{IndexPost, RankPost, lowered_rank, lowered_register}
 use Rattle.lists.specs.Registers.{register_bytes, registers_of, with_registers, zeros, raise, larger, lowered_at, lowered, not_zero_count, largest, lowered_in_place, offset_rank, HoldsFirst, ReadPost, StorePost, RaisePost, BothHold, ScanPre, ScanPost, LowerPre, BlockPre, BlockPost, DowngradePre}
 
 -- ---- how registers lie: these alone know that a register is a byte
@@ -157,9 +156,6 @@ module _ (p : ℕ) (row before after : List ℕ) (i : ℕ) (d : Done p row befor
   done_registers =
       ap (registers_of p) d.so_far ∙ of_with p before d.room (take i row ++ drop i (registers_of p before)) mixed_length
 
-  pub done_length : length after ≡ length before
-  done_length = ap length d.so_far ∙ with_length p before d.room (take i row ++ drop i (registers_of p before)) mixed_length
-
   pub done_room : register_bytes p ≤ length after
   done_room = with_room p before d.room (take i row ++ drop i (registers_of p before)) mixed_length after d.so_far
 
@@ -260,7 +256,7 @@ pub record CountingNotZero (regs : List ℕ) (count i : ℕ) : Type 0 where
 pub count_none : (regs : List ℕ) → CountingNotZero regs 0 0
 count_none regs = record { few = zero-le; sum = let e : 0 + not_zero_count regs ≡ not_zero_count regs = omega arith in e }
 
-pub count_turn : (regs : List ℕ) (count i x r : ℕ) → i < length regs → r ≡ get_or regs i 0 → x ≡ bool_byte (not (eqb r 0)) → CountingNotZero regs count i
+pub count_turn : (regs : List ℕ) (count i x r : ℕ) → i < length regs → r ≡ get_or regs i 0 → x ≡ from_bool (not (eqb r 0)) → CountingNotZero regs count i
     → CountingNotZero regs (count + x) (i + 1)
 unfolding not_zero_count
 count_turn regs count i x r h e f w =
@@ -273,10 +269,10 @@ count_turn regs count i x r h e f w =
     whole = ap (λ (l : List ℕ). count + not_zero_count l) (sym (drop-cons regs i 0 h)) ∙ w.sum
 
     none : r ≡ 0 → x ≡ 0
-    none z = f ∙ ap (λ (t : Bool). bool_byte (not t)) (eq-eqb r 0 z)
+    none z = f ∙ ap (λ (t : Bool). from_bool (not t)) (eq-eqb r 0 z)
 
     one : 0 < r → x ≡ 1
-    one z = f ∙ ap (λ (t : Bool). bool_byte (not t)) (ne_eqb r 0 (λ (y : r ≡ 0). omega arith))
+    one z = f ∙ ap (λ (t : Bool). from_bool (not t)) (ne_eqb r 0 (λ (y : r ≡ 0). omega arith))
 
     by_test : (r ≡ 0) ⊎ (0 < r) → count + x + not_zero_count (drop (suc i) regs) ≡ not_zero_count regs
     by_test (inl z) =
@@ -313,46 +309,6 @@ pub record Scanned (bytes : List ℕ) (from to i : ℕ) : Type 0 where
   pub low : from ≤ i
   pub high : i ≤ to
   pub none : (p x : ℕ) → register_bytes p ≤ length bytes → to ≤ 2 ^ p → from ≤ x → x < i → get_or (registers_of p bytes) x 0 ≡ 0
-
-pub scan_none : (bytes : List ℕ) (from to : ℕ) → from ≤ to → Scanned bytes from to from
-scan_none bytes from to h =
-    record {
-      low = le_of_eq refl;
-      high = h;
-      none = λ (p x : ℕ) (room : register_bytes p ≤ length bytes) (w : to ≤ 2 ^ p) (a : from ≤ x) (b : x < from). absurd (let z : ⊥ = omega arith in z);
-    }
-
-pub scan_turn : (bytes : List ℕ) (from to i r : ℕ) → i < to → ReadPost bytes i r → r ≡ 0 → Scanned bytes from to i → Scanned bytes from to (i + 1)
-scan_turn bytes from to i r h read z s =
-    record {
-      low = omega (arith, s.low);
-      high = omega arith;
-      none = λ (p x : ℕ) (room : register_bytes p ≤ length bytes) (w : to ≤ 2 ^ p) (a : from ≤ x) (b : x < i + 1).
-          ⊎_elim (λ (c : x < i). s.none p x room w a c)
-          (λ (c : i ≤ x).
-          let e : x ≡ i = omega arith in
-          ap (λ (n : ℕ). get_or (registers_of p bytes) n 0) e ∙ sym (read.value p room (let g : i < 2 ^ p = omega arith in g)) ∙ z) (side x i);
-    }
-
-pub scan_found : (bytes : List ℕ) (from to i r : ℕ) → i < to → ReadPost bytes i r → (r ≡ 0 → ⊥) → Scanned bytes from to i → ScanPost bytes from to i
-scan_found bytes from to i r h read z s =
-    record {
-      low = s.low;
-      high = s.high;
-      none = s.none;
-      found = λ (p : ℕ) (room : register_bytes p ≤ length bytes) (w : to ≤ 2 ^ p) (l : i < to).
-          subst (λ (n : ℕ). 0 < n) (read.value p room (let g : i < 2 ^ p = omega arith in g))
-          (pos_of_ne-zero z);
-    }
-
-pub scan_end : (bytes : List ℕ) (from to i : ℕ) → to ≤ i → Scanned bytes from to i → ScanPost bytes from to to
-scan_end bytes from to i h s =
-    record {
-      low = omega (arith, s.low, s.high);
-      high = le_of_eq refl;
-      none = λ (p x : ℕ) (room : register_bytes p ≤ length bytes) (w : to ≤ 2 ^ p) (a : from ≤ x) (b : x < to). s.none p x room w a (omega arith);
-      found = λ (p : ℕ) (room : register_bytes p ≤ length bytes) (w : to ≤ 2 ^ p) (l : to < to). absurd (let z : ⊥ = omega arith in z);
-    }
 
 -- ---- one register of those lowered
 
@@ -486,9 +442,6 @@ module _ (bytes : List ℕ) (d t first : ℕ) (read : ReadPost bytes (t * 2 ^ d)
 module _ (bytes : List ℕ) (d t block : ℕ) (pre : BlockPre d t bytes) (size : block ≡ 2 ^ d) where
   code_within : t * block + block ≤ 2 ^ pre.precision
   code_within = subst (λ (b : ℕ). t * b + b ≤ 2 ^ pre.precision) (sym size) (block_within pre.precision d t pre.fewer pre.below)
-
-  pub code_fits : t * block + block ≤ 16777216
-  code_fits = let m : 2 ^ pre.precision ≤ 2 ^ 24 = pow_mono pre.holds.high in omega (arith, code_within, m)
 
   code_first : t * block + 1 ≤ 2 ^ pre.precision
   code_first = omega (arith, code_within, size, pow_pos d)

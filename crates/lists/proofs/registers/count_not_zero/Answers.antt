@@ -1,10 +1,7 @@
 use Rattle.std.proofs.Common.{◌^◌, ◌<◌, arith}
 use Rattle.lists.specs.Registers.{registers_of}
-use Rattle.lists.proofs.RegisterLaws.{of_length, count_none, count_turn, count_end}
+use Rattle.lists.proofs.RegisterLaws.{of_length, count_turn, count_end}
 use Rattle.lists.proofs.registers.count_not_zero.Goals as goal
-
-pub loop-i-init : goal.loop-i-init
-loop-i-init c = count_none _
 
 pub loop-i-preserved : goal.loop-i-preserved
 loop-i-preserved c = let l = c.loop-i in

@@ -1,4 +1,4 @@
-use Rattle.std.proofs.Common.{◌-◌, ◌^◌, ◌<◌, ◌≤◌, arith, rules}
+use Rattle.std.proofs.Common.{◌-◌, ◌^◌, ◌<◌, arith, rules}
 use Rattle.lists.proofs.RegisterLaws.{lower_start, lower_block, lower_turn, lower_holds, lower_end, lower_whole, fewer_bytes}
 use Rattle.lists.proofs.registers.lower_registers.Goals as goal
 

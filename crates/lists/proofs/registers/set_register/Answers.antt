@@ -1,11 +1,7 @@
 -- The value's register and rank are those that its functions give, d bits lower.
-use Rattle.std.proofs.Common.{◌-◌, ◌/◌, ◌^◌, arith}
-use lib.Pow.{shr_le}
+use Rattle.std.proofs.Common.{◌-◌, ◌/◌, ◌^◌}
 use Rattle.lists.proofs.RegisterLaws.{first_held, lower_index_lem, set_one}
 use Rattle.lists.proofs.registers.set_register.Goals as goal
-
-pub overflow_cast-i : goal.overflow_cast-i
-overflow_cast-i c = omega (arith, shr_le c.decode_normal_index-i.result c.args.d)
 
 pub raise_register-requires : goal.raise_register-requires
 raise_register-requires c = first_held (c.args.enc.normal_precision - c.args.d) (c.decode_normal_index-i.result / 2 ^ c.args.d) c.args.registers.now c.requires.room

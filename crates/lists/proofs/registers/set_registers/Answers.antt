@@ -23,9 +23,6 @@ loop-v-preserved c = let l = c.loop-v in
     setting_turn (c.args.enc.normal_precision - c.args.d) (lower_index c.args.enc.normal_precision c.args.enc.sparse_precision c.args.d) (lower_rank c.args.enc.normal_precision c.args.enc.sparse_precision c.args.d) _ _ _ l.v-index l.invariant
     (get_or c.args.list.now l.v-index 0) _ c.loop-v-test.true refl c.set_register.ensures
 
-pub shape_of-registers : goal.shape_of-registers
-shape_of-registers c = c.loop-v.invariant.size
-
 pub returns : goal.returns
 returns c = let l = c.loop-v in
     setting_end (c.args.enc.normal_precision - c.args.d) (lower_index c.args.enc.normal_precision c.args.enc.sparse_precision c.args.d) (lower_rank c.args.enc.normal_precision c.args.enc.sparse_precision c.args.d) _ _ _ l.v-index l.invariant c.loop-v-test.false

@@ -1,5 +1,5 @@
 -- The loop's invariant: the values left raise the registers to those of the whole list.
-use Rattle.std.proofs.Common.{◌-◌, length}
+use Rattle.std.proofs.Common.{◌-◌}
 use Rattle.lists.proofs.RankLaws.{lower_index, lower_rank}
 use Rattle.lists.proofs.RegisterLaws.{Setting}
 use Rattle.lists.proofs.registers.set_registers.Given as goal
