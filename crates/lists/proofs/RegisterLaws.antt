@@ -1,5 +1,5 @@
 -- Registers in memory: how they lie, and the loops over them.
-use Rattle.std.proofs.Common.{◌≡◌, ℕ, suc, ◌+◌, ◌-◌, ◌*◌, ◌/◌, ◌%◌, ◌^◌, ◌<◌, ◌≤◌, max, Bool, cond, not, eqb, ◌⊎◌, List, [], ◌∷◌, ◌++◌, length, get_or, take, drop, set, replicate, sym, refl, ap, ◌∙◌, subst, ap₂, inl, inr, ⊎_elim, append_assoc, append-nil, zero-le, le_trans, le_of_eq, mul-le-mul_right, mod-lt, suc-mul, eq-zero-or-pos, le_antisymm, pos_of_ne-zero, pow-suc, add-sub_cancel, add-one, arith, length-append, length-drop, length-set, take-append-drop, drop_of_length-le, length-take-le, get_or-drop, take_all, drop-cons, get_or-take, take-suc, take_at, get_or-append-add, drop_at, pow_pos, pow_mono, pow-add, shl_exact, shr_lt, le-ltb, lt-ltb, eq-eqb, ne_eqb}
+use Rattle.std.proofs.Common.{◌≡◌, ℕ, suc, ◌+◌, ◌-◌, ◌*◌, ◌/◌, ◌%◌, ◌^◌, ◌<◌, ◌≤◌, max, Bool, true, cond, not, eqb, ◌⊎◌, List, [], ◌∷◌, ◌++◌, length, get_or, take, drop, set, replicate, sym, refl, ap, ◌∙◌, subst, ap₂, inl, inr, ⊎_elim, append_assoc, append-nil, zero-le, le_trans, le_of_eq, mul-le-mul_right, mod-lt, suc-mul, eq-zero-or-pos, le_antisymm, pos_of_ne-zero, pow-suc, add-sub_cancel, add-one, arith, length-append, length-drop, length-set, take-append-drop, drop_of_length-le, length-take-le, get_or-drop, take_all, drop-cons, get_or-take, take-suc, take_at, get_or-append-add, drop_at, pow_pos, pow_mono, pow-add, shl_exact, shr_lt, le-ltb, lt-ltb, eq-eqb, ne_eqb}
 use native.Mathlib.Nat.{max-zero, mul-mod_left}
 use borrow.Rule.Slice.PartMut.{put_mid, Post-is}
 use Rattle.std.specs.Int.{from_bool}
@@ -9,9 +9,11 @@ use lib.Pow.{shl-shr, shr_le, split, high, low}
 use lib.Count.{count_leading_zeros, leading_length, leading_unique}
 use Rattle.wire.proofs.VarintLaws.{side}
 use Rattle.lists.proofs.ValueLaws.{wider, lowered_zero, lowered_bits, lowered_bits_le, lowered_register_lem, lowered_register_le, register_zero}
-use Rattle.lists.proofs.RankLaws.{max_assoc, larger_length, larger_at, largest_upper, lowered_length, lowered_at_lem, lowered_upper, lowered_least, lowered_agree, raised_with, lower_index, lower_rank}
-use Rattle.lists.specs.Values.{IndexPost, RankPost, lowered_rank, lowered_register}
-use Rattle.lists.specs.Registers.{register_bytes, registers_of, with_registers, zeros, raise, larger, lowered_at, lowered, not_zero_count, largest, lowered_in_place, offset_rank, HoldsFirst, ReadPost, StorePost, RaisePost, BothHold, ScanPre, ScanPost, LowerPre, BlockPre, BlockPost, DowngradePre}
+use Rattle.lists.proofs.RankLaws.{max_assoc, larger_length, larger_at, largest_upper, lowered_length, lowered_at_lem, lowered_upper, lowered_least, lowered_agree, raised_with, lower_index, lower_rank, lower_none}
+use Rattle.lists.specs.declared.values.Sparse.{Sparse}
+use Rattle.lists.specs.Lists.{all_valid}
+use Rattle.lists.specs.Values.{SparseFits, IndexPost, RankPost, lowered_rank, lowered_register}
+use Rattle.lists.specs.Registers.{register_bytes, registers_of, with_registers, zeros, raise, larger, lowered_at, lowered, not_zero_count, largest, raised_by, raised_lower, lowered_in_place, offset_rank, HoldsFirst, ReadPost, StorePost, RaisePost, BothHold, ScanPre, ScanPost, LowerPre, BlockPre, BlockPost, DowngradePre, SetListPre}
 
 -- ---- how registers lie: these alone know that a register is a byte
 
@@ -109,9 +111,9 @@ raise_post bytes i r m e =
     }
 
 -- How many registers there are.
-pub count_is : (p : ℕ) → p ≤ 24 → ((1 * 2 ^ p) % 2 ^ 32 ≡ 2 ^ p) × ((1 * 2 ^ p) % 2 ^ 32 ≤ 16777216)
-count_is p h =
-    let e : (1 * 2 ^ p) % 2 ^ 32 ≡ 1 * 2 ^ p = shl_exact {a = 1} 1 p 32 (omega arith) (omega arith) in
+pub count_is : (w p : ℕ) → p ≤ 24 → 24 < w → ((1 * 2 ^ p) % 2 ^ w ≡ 2 ^ p) × ((1 * 2 ^ p) % 2 ^ w ≤ 16777216)
+count_is w p h g =
+    let e : (1 * 2 ^ p) % 2 ^ w ≡ 1 * 2 ^ p = shl_exact {a = 1} 1 p w (omega arith) (omega arith) in
     let l : 2 ^ p ≤ 2 ^ 24 = pow_mono h in (omega arith, omega arith)
 
 -- ---- a loop that puts one register of a row after the other in the place of those before
@@ -654,3 +656,17 @@ set_one p s d v i r x before after h room index ranks e raised =
     raised.raised (p - d) room (lower_index_lem p d i h index.small)
     ∙ ap₂ (λ (a b : ℕ). with_registers (p - d) (raise (registers_of (p - d) before) a b) before) (ap (λ (n : ℕ). n / 2 ^ d) index.index)
     (e ∙ ap₂ (lowered_rank d) index.index ranks.value)
+
+-- With no bits to go a list raises the registers of its own precision.
+pub set_none : (enc : Sparse) (list bytes : List ℕ) → SparseFits enc → all_valid enc.normal_precision enc.sparse_precision list ≡ true
+    → register_bytes enc.normal_precision ≤ length bytes → SetListPre enc 0 list bytes
+set_none enc list bytes fits ok room =
+    let e : enc.normal_precision ≡ enc.normal_precision - 0 = omega arith in
+    record { fits = fits; ok = ok; few = zero-le; fewer = zero-le; room = subst (λ (n : ℕ). register_bytes n ≤ length bytes) e room }
+
+pub set_own : (p s : ℕ) (l before after : List ℕ) → after ≡ with_registers (p - 0) (raised_lower p s 0 (registers_of (p - 0) before) l) before
+    → after ≡ with_registers p (raised_by p s (registers_of p before) l) before
+set_own p s l before after e =
+    e
+    ∙ ap (λ (n : ℕ). with_registers n (raised_lower p s 0 (registers_of n before) l) before) (let f : p - 0 ≡ p = omega arith in f)
+    ∙ ap (λ (x : List ℕ). with_registers p x before) (lower_none p s (registers_of p before) l)

@@ -61,11 +61,11 @@ fn densed(h: Accumulator) -> Accumulator
 
 // The registers of a list, whatever was there.
 fn set_list(registers: &mut [u8], enc: Sparse, list: &[u32])
-    requires { SetListPre enc list.now registers.old }
+    requires { SetListPre enc 0 list.now registers.old }
     ensures { registers.new ≡ with_registers enc.normal_precision (raised_by enc.normal_precision enc.sparse_precision (zeros enc.normal_precision) list.now) registers.old }
 {
     registers::clear_registers(registers, enc.normal_precision);
-    registers::set_registers(registers, enc, list);
+    registers::set_registers(registers, enc, 0, list);
 }
 
 // And those of two lists: of the values that are kept and those that wait.
@@ -74,7 +74,7 @@ pub fn set_lists(registers: &mut [u8], enc: Sparse, kept: &[u32], waiting: &[u32
     ensures { registers.new ≡ with_registers enc.normal_precision (raised_by enc.normal_precision enc.sparse_precision (zeros enc.normal_precision) (kept.now ++ waiting.now)) registers.old }
 {
     set_list(registers, enc, kept);
-    registers::set_registers(registers, enc, waiting);
+    registers::set_registers(registers, enc, 0, waiting);
 }
 
 // After a merge: the list's numbers, or its registers where it has grown to the limit.
@@ -120,7 +120,8 @@ fn wait(h: Accumulator, pending: &mut [u32], scratch: &[u32], k: usize) -> Accum
     requires { (k ≤ length scratch.now) × (h.pending_len + k ≤ length pending.old) }
     ensures { (result ≡ with_list h h.sparse_size h.sparse_len h.sparse_bytes (h.pending_len + k)) × (take (h.pending_len + k) pending.new ≡ take h.pending_len pending.old ++ take k scratch.now) }
 {
-    let n = sorting::copy_run(scratch, 0, k, pending, h.pending_len);
+    let n = h.pending_len + k;
+    pending[h.pending_len..n].copy_from_slice(&scratch[..k]);
     with_list(h, h.sparse_size, h.sparse_len, h.sparse_bytes, n)
 }
 
@@ -147,7 +148,7 @@ fn merge_back(
     ensures { MergePost enc.normal_precision enc.sparse_precision (take n sparse.old) incoming.now result sparse.new }
 {
     let r = merging::merge_dedupe_into(enc, &sparse[..n], incoming, scratch);
-    sorting::copy_run(&scratch[..], 0, r.len, sparse, 0);
+    sparse[..r.len].copy_from_slice(&scratch[..r.len]);
     r
 }
 
@@ -165,7 +166,8 @@ fn merge_all(
     requires { JoinPre enc sparse.old n pending.old w scratch.old k }
     ensures { MergePost enc.normal_precision enc.sparse_precision (take n sparse.old) (take w pending.old ++ take k scratch.old) result sparse.new }
 {
-    let all = sorting::copy_run(&scratch[..], 0, k, pending, w);
+    let all = w + k;
+    pending[w..all].copy_from_slice(&scratch[..k]);
     in_order(&mut pending[..all], w, scratch);
     merge_back(enc, sparse, n, &pending[..all], scratch)
 }

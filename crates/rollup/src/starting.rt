@@ -6,7 +6,7 @@ ghost use Rattle.rollup.specs.Stages.{StartPre, StartPost};
 
 use crate::accumulator::{Accumulator, Form};
 use crate::incoming::Incoming;
-use lists::{registers, sorting};
+use lists::registers;
 
 // The head that a first list sets, or a first state without list or data.
 fn first_list(x: Incoming, len: usize) -> Accumulator
@@ -58,8 +58,8 @@ pub(crate) fn start(
     ensures { StartPost registers.old x row.now values.now result registers.new sparse.new }
 {
     if row.len() == 0 {
-        let n = sorting::copy_run(values, 0, values.len(), sparse, 0);
-        return first_list(x, n);
+        sparse[..values.len()].copy_from_slice(values);
+        return first_list(x, values.len());
     }
     registers::load_registers(registers, row, x.precision);
     first_dense(x)
