@@ -664,6 +664,11 @@ set_none enc list bytes fits ok room =
     let e : enc.normal_precision ≡ enc.normal_precision - 0 = omega arith in
     record { fits = fits; ok = ok; few = zero-le; fewer = zero-le; room = subst (λ (n : ℕ). register_bytes n ≤ length bytes) e room }
 
+pub set_none_room : (enc : Sparse) (list bytes : List ℕ) → SetListPre enc 0 list bytes → register_bytes enc.normal_precision ≤ length bytes
+set_none_room enc list bytes pre =
+    let e : enc.normal_precision - 0 ≡ enc.normal_precision = omega arith in
+    subst (λ (n : ℕ). register_bytes n ≤ length bytes) e pre.room
+
 pub set_own : (p s : ℕ) (l before after : List ℕ) → after ≡ with_registers (p - 0) (raised_lower p s 0 (registers_of (p - 0) before) l) before
     → after ≡ with_registers p (raised_by p s (registers_of p before) l) before
 set_own p s l before after e =

@@ -4,6 +4,8 @@ use mathlib.Core.List.Permᴰ
 use mathlib.Core.List.{Permᴰ}
 use native.Mathlib.Nat.{min-le_left}
 use lib.ListN.{length-replicate}
+use borrow.Rule.Slice.PartMut.{put_mid}
+use Rattle.std.proofs.lemmas.Slice.{take-put_mid}
 use Rattle.wire.proofs.VarintLaws.{side}
 use Rattle.lists.specs.declared.values.Sparse.{Sparse as Encoding}
 use Rattle.lists.specs.declared.merging.Merged.{Merged}
@@ -152,9 +154,11 @@ module _ (h : Accumulator) (registers l : List ℕ) (bytes : ℕ) where
 
 -- ---- copies
 
--- A copy from the start of a list.
-pub copied : (w k r : ℕ) (front after : List ℕ) → r ≡ w + (k - 0) → take r after ≡ front → take (w + k) after ≡ front
-copied w k r front after e f = ap (λ (n : ℕ). take n after) (let g : w + k ≡ r = omega arith in g) ∙ f
+-- The first k values of a list were copied after the first w of another.
+pub copied : (w k m : ℕ) (l from part : List ℕ) → w ≤ length l → k ≤ length from → part ≡ take k from
+    → take (w + k) (put_mid w m l part) ≡ take w l ++ take k from
+copied w k m l from part h g e =
+    take-put_mid w m l part (w + k) (omega (arith, ap length e, length-take-le k from g)) h ∙ ap (λ (x : List ℕ). take w l ++ x) e
 
 -- ---- merges
 
@@ -166,11 +170,11 @@ module _ (p s : ℕ) where
   merge_post a b c r after e m =
       record { count = m.count ∙ ap length e; bytes = m.bytes ∙ ap written e; values = m.values ∙ e }
 
-  -- The merge was copied from one place to another.
-  pub merge_copied : (a b : List ℕ) (r : Merged) (from to : List ℕ) (n : ℕ) → n ≡ 0 + (r.len - 0) → take n to ≡ take r.len from
-      → MergePost p s a b r from → MergePost p s a b r to
-  merge_copied a b r from to n e f m =
-      record { count = m.count; bytes = m.bytes; values = ap (λ (k : ℕ). take k to) (let g : r.len ≡ n = omega arith in g) ∙ f ∙ m.values }
+  -- The merge was copied to the front of another list.
+  pub merge_copied : (a b : List ℕ) (r : Merged) (from part rest : List ℕ) → length part ≡ r.len → part ≡ take r.len from
+      → MergePost p s a b r from → MergePost p s a b r (part ++ rest)
+  merge_copied a b r from part rest e f m =
+      record { count = m.count; bytes = m.bytes; values = take_at part rest r.len e ∙ f ∙ m.values }
 
 -- Values that were put in order, in place, and the merge of them and of those kept.
 module _ (vs ordered tail : List ℕ) (n : ℕ) (long : length vs ≡ n) (e : ordered ≡ sort_of vs) where
@@ -221,45 +225,45 @@ module _ (enc : Encoding) (sparse : List ℕ) (n : ℕ) (incoming scratch : List
 
 module _ (enc : Encoding) (sparse : List ℕ) (n : ℕ) (pending : List ℕ) (w : ℕ) (scratch : List ℕ) (k : ℕ) (pre : JoinPre enc sparse n pending w scratch k) where
   -- The values that come in were copied after those that wait.
-  module _ (all : ℕ) (first : List ℕ) (e : all ≡ w + (k - 0)) (f : take all first ≡ take w pending ++ take k scratch) where
-    pub joined_length : length (take all first) ≡ w + k
+  module _ (first : List ℕ) (f : take (w + k) first ≡ take w pending ++ take k scratch) where
+    pub joined_length : length (take (w + k) first) ≡ w + k
     joined_length =
         ap length f
         ∙ length-append (take w pending) (take k scratch)
         ∙ ap₂ (λ (x y : ℕ). x + y) (length-take-le w pending (let h : w ≤ length pending = omega (arith, pre.in_pending) in h))
         (length-take-le k scratch (let h : k ≤ length scratch = omega (arith, pre.in_scratch) in h))
 
-    pub joined_order : w ≡ 0 → ascends (take all first) ≡ true
+    pub joined_order : w ≡ 0 → ascends (take (w + k) first) ≡ true
     joined_order z = ap ascends (f ∙ ap (λ (x : ℕ). take x pending ++ take k scratch) z) ∙ pre.incoming_order
 
     -- They were put in order, in place.
-    module _ (ordered tail : List ℕ) (g : ordered ≡ sort_of (take all first)) where
+    module _ (ordered tail : List ℕ) (g : ordered ≡ sort_of (take (w + k) first)) where
       abbrev both : List ℕ
       both = take w pending ++ take k scratch
 
-      both_length : length both ≡ all
-      both_length = ap length (sym f) ∙ joined_length ∙ (let h : w + k ≡ all = omega arith in h)
+      both_length : length both ≡ w + k
+      both_length = ap length (sym f) ∙ joined_length
 
       in_order : ordered ≡ sort_of both
       in_order = g ∙ ap sort_of f
 
-      pub joined_back : (spare : List ℕ) → length spare ≡ length scratch → BackPre enc sparse n (take all (ordered ++ tail)) spare
+      pub joined_back : (spare : List ℕ) → length spare ≡ length scratch → BackPre enc sparse n (take (w + k) (ordered ++ tail)) spare
       joined_back spare same =
           let p = enc.normal_precision in
           let s = enc.sparse_precision in
           let kept_length = length-take-le n sparse (let h : n ≤ length sparse = omega (arith, pre.in_sparse) in h) in
           record {
             merge =
-                sorted_merge both ordered tail all both_length in_order enc (take n sparse) spare pre.fits pre.order pre.kept_valid
+                sorted_merge both ordered tail (w + k) both_length in_order enc (take n sparse) spare pre.fits pre.order pre.kept_valid
                 (valid_append p s (take w pending) (take k scratch) pre.waiting_valid pre.incoming_valid)
                 (omega (arith, pre.in_scratch, pre.in_sparse, same, kept_length));
-            room = omega (arith, pre.in_sparse, ap length (sorted_front both ordered tail all both_length in_order), length_sort both, both_length);
+            room = omega (arith, pre.in_sparse, ap length (sorted_front both ordered tail (w + k) both_length in_order), length_sort both, both_length);
           }
 
       pub joined_post : (r : Merged) (after : List ℕ)
-          → MergePost enc.normal_precision enc.sparse_precision (take n sparse) (take all (ordered ++ tail)) r after
+          → MergePost enc.normal_precision enc.sparse_precision (take n sparse) (take (w + k) (ordered ++ tail)) r after
           → MergePost enc.normal_precision enc.sparse_precision (take n sparse) both r after
-      joined_post = sorted_post both ordered tail all both_length in_order enc (take n sparse)
+      joined_post = sorted_post both ordered tail (w + k) both_length in_order enc (take n sparse)
 
 -- ---- all values as one list
 

@@ -1,7 +1,6 @@
 -- What is taken in first: its values are kept, or its row becomes the registers.
-use Rattle.std.proofs.Common.{◌≡◌, ℕ, ◌+◌, ◌-◌, Bool, cond, List, [], ◌++◌, length, take, sym, refl, ap, ◌∙◌, subst, le_of_eq, pos_of_ne-zero, arith, take_all, eq-eqb, ne_eqb}
+use Rattle.std.proofs.Common.{◌≡◌, ℕ, Bool, cond, List, [], ◌++◌, length, take, sym, refl, ap, ◌∙◌, subst, pos_of_ne-zero, take_at, eq-eqb, ne_eqb}
 use mathlib.Core.List.{Permᴰ}
-use lib.Seq.{slice}
 use Rattle.lists.specs.Registers.{registers_of, with_registers, BothHold}
 use Rattle.lists.proofs.RegisterLaws.{row_holds, row_registers}
 use Rattle.rollup.specs.declared.accumulator.Accumulator.{Accumulator}
@@ -34,22 +33,16 @@ module _ (registers sparse : List ℕ) (x : Incoming) (row vs : List ℕ) (pre :
             (sym e) (f before pending);
       }
 
-  pub start_list_lem : (r : Accumulator) (n : ℕ) (after : List ℕ) → length row ≡ 0 → n ≡ 0 + (length vs - 0)
-      → take n after ≡ take 0 sparse ++ slice 0 (length vs) vs
-      → r ≡ list_head x.mask x.value_type x.num_values x.precision x.sparse_precision x.sparse_size n x.list_bytes 0
-      → StartPost registers x row vs r registers after
-  start_list_lem r n after h count copied head =
-      let all : n ≡ length vs = count ∙ (let z : 0 + (length vs - 0) ≡ length vs = omega arith in z) in
-      gone r registers after (eq-eqb (length row) 0 h)
+  pub start_list_lem : (r : Accumulator) (part rest : List ℕ) → length row ≡ 0 → part ≡ vs
+      → r ≡ list_head x.mask x.value_type x.num_values x.precision x.sparse_precision x.sparse_size (length vs) x.list_bytes 0
+      → StartPost registers x row vs r registers (part ++ rest)
+  start_list_lem r part rest h copied head =
+      gone r registers (part ++ rest) (eq-eqb (length row) 0 h)
       (λ (before pending : List ℕ).
       record {
-        head =
-            head
-            ∙ ap
-            (λ (k : ℕ). list_head x.mask x.value_type x.num_values x.precision x.sparse_precision x.sparse_size k x.list_bytes 0)
-            all;
+        head = head;
         registers = refl;
-        kept = ap (λ (y : Accumulator). take y.sparse_len after) head ∙ copied ∙ take_all (length vs) vs (le_of_eq refl);
+        kept = ap (λ (y : Accumulator). take y.sparse_len (part ++ rest)) head ∙ take_at part rest (length vs) (ap length copied) ∙ copied;
         waiting = subst (λ (l : List ℕ). Permᴰ l []) (sym (ap (λ (y : Accumulator). take y.pending_len pending) head)) Permᴰ.nil;
       })
 

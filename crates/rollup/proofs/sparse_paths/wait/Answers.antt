@@ -1,12 +1,9 @@
 -- The copy ends after the values that come in, which is the new count (`copied`).
-use Rattle.std.proofs.Common.{◌≡◌, ℕ, ◌+◌, ap, ◌∙◌, arith}
+use Rattle.std.proofs.Common.{◌+◌, ◌-◌, arith}
 use Rattle.rollup.proofs.SparseLaws.{copied}
-use Rattle.rollup.specs.Taking.{with_list}
 use Rattle.rollup.proofs.sparse_paths.wait.Goals as goal
 
 pub returns : goal.returns
-returns c = let h = c.args.h in
-    let e : c.copy_run-n.result ≡ h.pending_len + c.args.k = omega (arith, c.copy_run-n.ensures.0) in (
-      c.with_list.ensures ∙ ap (λ (n : ℕ). with_list h h.sparse_size h.sparse_len h.sparse_bytes n) e,
-      copied h.pending_len c.args.k c.copy_run-n.result _ _ c.copy_run-n.ensures.0 c.copy_run-n.ensures.1,
-    )
+returns c = let w = c.args.h.pending_len in
+    let k = c.args.k in
+    (c.with_list.ensures, copied w k (w + k - w) c.args.pending.now c.args.scratch.now _ (omega (arith, c.requires.1)) c.requires.0 c.copy_from_slice.ensures.after)

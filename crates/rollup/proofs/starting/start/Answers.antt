@@ -1,13 +1,9 @@
 -- The values are copied, or the row is loaded as registers, and the head is that of what comes in.
-use Rattle.std.proofs.Common.{arith}
 use Rattle.rollup.proofs.StartLaws.{start_load, start_list_lem, start_dense_lem}
 use Rattle.rollup.proofs.starting.start.Goals as goal
 
-pub copy_run-n-requires : goal.copy_run-n-requires
-copy_run-n-requires c = (omega arith, omega arith, omega (arith, c.requires.in_sparse))
-
 pub returns-then-row-eq0 : goal.returns-then-row-eq0
-returns-then-row-eq0 c = start_list_lem c.args.registers.now c.args.sparse.now c.args.x c.args.row.now c.args.values.now c.requires c.first_list.result c.copy_run-n.result _ c.if-row-eq0.true c.copy_run-n.ensures.0 c.copy_run-n.ensures.1 c.first_list.ensures
+returns-then-row-eq0 c = start_list_lem c.args.registers.now c.args.sparse.now c.args.x c.args.row.now c.args.values.now c.requires c.first_list.result c.copy_from_slice.new.self _ c.if-row-eq0.true c.copy_from_slice.ensures.after c.first_list.ensures
 
 pub load_registers-requires : goal.load_registers-requires
 load_registers-requires c = start_load c.args.registers.now c.args.sparse.now c.args.x c.args.row.now c.args.values.now c.requires c.if-row-eq0.false
