@@ -3,7 +3,8 @@
 // register for the first that is not zero, and lowering in place.
 //
 // A register is a byte: `read_register`, `store_register` and `raise_register` alone know it, and every loop over registers goes through them. Registers of a
-// precision fill whole bytes, so that all of them are copied and cleared as bytes.
+// precision fill whole bytes, so that all of them are copied and cleared as bytes. They stay a slice and a precision: a struct that held a lent slice would
+// owe in each contract that it is still the same slice, and want a second type for registers that are only read.
 ghost use Rattle.std.specs.Prelude.{◌≡◌, ◌+◌, ◌-◌, ◌/◌, ◌^◌, ◌<◌, ◌≤◌};
 ghost use Rattle.lists.specs.Registers.{register_bytes, registers_of, with_registers, zeros, larger, lowered, not_zero_count, largest, lowered_in_place, offset_rank, Holds, HoldsFirst, ReadPost, StorePost, RaisePost, BothHold, ScanPre, ScanPost, LowerPre, BlockPre, BlockPost, DowngradePre, raise, raised_lower, SetPre, SetListPre};
 ghost use Rattle.lists.specs.Values.{register, rank, lowered_rank};
@@ -83,7 +84,7 @@ pub fn count_not_zero(registers: &[u8], p: u32) -> usize
     requires { Holds p registers.now }
     ensures { result ≡ not_zero_count (registers_of p registers.now) }
 {
-    let mut count: usize = 0;
+    let mut count = 0;
     for i in 0..register_count(p) {
         count += usize::from(read_register(registers, i) != 0);
     }
@@ -95,7 +96,7 @@ pub fn largest_register(registers: &[u8], p: u32) -> u8
     requires { Holds p registers.now }
     ensures { result ≡ largest (registers_of p registers.now) }
 {
-    let mut top: u8 = 0;
+    let mut top = 0;
     for i in 0..register_count(p) {
         top = top.max(read_register(registers, i));
     }
@@ -120,7 +121,7 @@ fn offset_rank(o: u32, d: u32) -> u8
     requires { (0 < o) × (o ≤ 2 ^ d) × (d ≤ 24) }
     ensures { result ≡ offset_rank d o }
 {
-    (u32::leading_zeros(o) + d - 31) as u8
+    (o.leading_zeros() + d - 31) as u8
 }
 
 // Register t of those lowered by d bits: 2^d registers land on it. The first of these gives more than any other where it is not zero, and else the
