@@ -96,7 +96,7 @@ pub fn largest_register(registers: &[u8], p: u32) -> u8
     requires { Holds p registers.now }
     ensures { result ≡ largest (registers_of p registers.now) }
 {
-    let mut top = 0;
+    let mut top: u8 = 0;
     for i in 0..register_count(p) {
         top = top.max(read_register(registers, i));
     }
