@@ -16,7 +16,7 @@ use Rattle.lists.specs.Values.{Pair}
 use Rattle.lists.specs.Sorting.{ascends}
 use Rattle.lists.specs.Lists.{all_valid, Decodes, encode_list, written, distinct_slots, MergePost, InsertPre, InsertPost, IndexPre}
 use Rattle.lists.specs.Merging.{EncodePre, MergePre}
-use Rattle.lists.specs.Registers.{register_bytes, registers_of, largest, Holds, BothHold, LowerPre, DowngradePre, SetListPre, SetListLowerPre}
+use Rattle.lists.specs.Registers.{register_bytes, registers_of, largest, Holds, BothHold, LowerPre, DowngradePre, SetListPre}
 use Rattle.lists.proofs.MergeLaws.{length_encode}
 use Rattle.lists_cases.specs.Tests.{Mergeable, Insertable}
 
@@ -94,15 +94,8 @@ module _ (enc : Sparse) where
   can_count l m distinct = record { rises = m.order; allowed = m.each; distinct = distinct }
 
   pub can_set : (list bytes : List ℕ) (q : ℕ) → all_valid enc.normal_precision enc.sparse_precision list ≡ true → Holds q bytes
-      → enc.normal_precision ≡ q → SetListPre enc list bytes
-  can_set list bytes q ok holds e = record {
-    ok = ok;
-    room = subst (λ (x : ℕ). register_bytes x ≤ length bytes) (sym e) holds.room;
-  }
-
-  pub can_set_lower : (list bytes : List ℕ) (q : ℕ) → all_valid enc.normal_precision enc.sparse_precision list ≡ true → Holds q bytes
-      → 4 ≤ q → q ≤ enc.normal_precision → SetListLowerPre enc (enc.normal_precision - q) list bytes
-  can_set_lower list bytes q ok holds low h =
+      → 4 ≤ q → q ≤ enc.normal_precision → SetListPre enc (enc.normal_precision - q) list bytes
+  can_set list bytes q ok holds low h =
       let e : enc.normal_precision - (enc.normal_precision - q) ≡ q = omega arith in record {
             ok = ok;
         few = omega (arith, enc.pair.high);

@@ -358,12 +358,7 @@ fn set_case(stdout: Stdout, enc: Sparse, q: u32, registers: &mut [u8], list: &[u
         text::bad_case(stdout);
         return;
     }
-    if p == q {
-        lists::registers::set_registers(registers, enc, list);
-        print_registers(stdout, q, &registers[..]);
-        return;
-    }
-    lists::registers::set_registers_lower(registers, enc, p - q, list);
+    lists::registers::set_registers(registers, enc, p - q, list);
     print_registers(stdout, q, &registers[..]);
 }
 

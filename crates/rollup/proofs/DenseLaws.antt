@@ -6,9 +6,9 @@ use lib.ListN.{length-replicate}
 use Rattle.lists.specs.declared.values.Sparse.{Sparse as Encoding}
 use Rattle.lists.specs.Pairs.{NewPost}
 use Rattle.lists.specs.Lists.{all_valid}
-use Rattle.lists.specs.Registers.{register_bytes, registers_of, with_registers, raised_by, raised_lower, larger, lowered, largest, lowered_in_place, BothHold, LowerPre, DowngradePre, SetListPre, SetListLowerPre}
+use Rattle.lists.specs.Registers.{register_bytes, registers_of, with_registers, raised_lower, larger, lowered, largest, lowered_in_place, BothHold, LowerPre, DowngradePre, SetListPre}
 use Rattle.lists.proofs.RegisterLaws.{with_room, of_length, with_of, row_holds, row_registers, fewer_bytes, of_front, with_front}
-use Rattle.lists.proofs.RankLaws.{registers_same, lower_none, lowered_length}
+use Rattle.lists.proofs.RankLaws.{registers_same, lowered_length}
 use Rattle.rollup.specs.declared.accumulator.Accumulator.{Accumulator}
 use Rattle.rollup.specs.declared.incoming.Incoming.{Incoming}
 use Rattle.rollup.specs.Accumulator.{mem}
@@ -110,8 +110,8 @@ module _ (q p s : ℕ) (vs registers : List ℕ) (pre : RaiseByListPre q p s vs 
   list_place : enc.normal_precision - (p - q) ≡ q
   list_place = omega (arith, new.normal, pre.order)
 
-  pub list_lower : q < p → SetListLowerPre enc (p - q) vs registers
-  list_lower h =
+  pub list_set : SetListPre enc (p - q) vs registers
+  list_set =
       record {
         ok = list_valid;
         few = omega (arith, pre.low, pre.pair.high);
@@ -119,12 +119,12 @@ module _ (q p s : ℕ) (vs registers : List ℕ) (pre : RaiseByListPre q p s vs 
         room = subst (λ (n : ℕ). register_bytes n ≤ length registers) (sym list_place) pre.room;
       }
 
-  pub list_lowered : (after : List ℕ)
+  pub list_raised : (after : List ℕ)
       → after
       ≡ with_registers (enc.normal_precision - (p - q))
       (raised_lower enc.normal_precision enc.sparse_precision (p - q) (registers_of (enc.normal_precision - (p - q)) registers) vs) registers
       → after ≡ with_registers q (raised_lower p s (p - q) (registers_of q registers) vs) registers
-  list_lowered after e =
+  list_raised after e =
       e
       ∙ ap
       (λ (n : ℕ).

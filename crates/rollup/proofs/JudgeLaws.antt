@@ -184,7 +184,7 @@ sized_none d l n e h = either_yes _ (empty_yes l (sym (ap length e) ∙ h))
 pub sized_some : (d l : List ℕ) (p : ℕ) → p ≤ 24 → d ≡ l → (length d ≡ 0 → ⊥)
     → eqb (length d) ((1 * 2 ^ p) % 2 ^ 64) ≡ is_empty l || eqb (length l) (2 ^ p)
 sized_some d l p k e h =
-    ap (λ (n : ℕ). eqb (length d) n) (count_is p k).0 ∙ ap (λ (x : List ℕ). eqb (length x) (2 ^ p)) e
+    ap (λ (n : ℕ). eqb (length d) n) (count_is 64 p k (omega arith)).0 ∙ ap (λ (x : List ℕ). eqb (length x) (2 ^ p)) e
     ∙ either_no (eqb (length l) (2 ^ p)) (empty_no l (λ (z : length l ≡ 0). h (ap length e ∙ z)))
 
 -- Whether 13 is asked, of a state without list bytes.

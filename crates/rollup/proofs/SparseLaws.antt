@@ -4,6 +4,8 @@ use mathlib.Core.List.Permᴰ
 use mathlib.Core.List.{Permᴰ}
 use native.Mathlib.Nat.{min-le_left}
 use lib.ListN.{length-replicate}
+use borrow.Rule.Slice.PartMut.{put_mid}
+use Rattle.std.proofs.lemmas.Slice.{take-put_mid}
 use Rattle.wire.proofs.VarintLaws.{side}
 use Rattle.lists.specs.declared.values.Sparse.{Sparse as Encoding}
 use Rattle.lists.specs.declared.merging.Merged.{Merged}

@@ -24,11 +24,11 @@ use lists::{registers, sorting};
 
 // The registers of a list, whatever was there.
 fn set_list(registers: &mut [u8], enc: Sparse, list: &[u32])
-    requires { SetListPre enc list.now registers.old }
+    requires { SetListPre enc 0 list.now registers.old }
     ensures { registers.new ≡ with_registers enc.normal_precision (raised_by enc.normal_precision enc.sparse_precision (zeros enc.normal_precision) list.now) registers.old }
 {
     registers::clear_registers(registers, enc.normal_precision);
-    registers::set_registers(registers, enc, list);
+    registers::set_registers(registers, enc, 0, list);
 }
 
 // And those of two lists: of the values that are kept and those that wait.
@@ -37,7 +37,7 @@ pub fn set_lists(registers: &mut [u8], enc: Sparse, kept: &[u32], waiting: &[u32
     ensures { registers.new ≡ with_registers enc.normal_precision (raised_by enc.normal_precision enc.sparse_precision (zeros enc.normal_precision) (kept.now ++ waiting.now)) registers.old }
 {
     set_list(registers, enc, kept);
-    registers::set_registers(registers, enc, waiting);
+    registers::set_registers(registers, enc, 0, waiting);
 }
 
 // ---- merging
