@@ -12,7 +12,7 @@ use Rattle.lists.proofs.ValueLaws.{wider, lowered_zero, lowered_bits, lowered_bi
 use Rattle.lists.proofs.RankLaws.{max_assoc, larger_length, larger_at, largest_upper, lowered_length, lowered_at_lem, lowered_upper, lowered_least, lowered_agree, raised_with, lower_index, lower_rank, lower_none}
 use Rattle.lists.specs.declared.values.Sparse.{Sparse}
 use Rattle.lists.specs.Lists.{all_valid}
-use Rattle.lists.specs.Values.{SparseFits, IndexPost, RankPost, lowered_rank, lowered_register}
+use Rattle.lists.specs.Values.{IndexPost, RankPost, lowered_rank, lowered_register}
 use Rattle.lists.specs.Registers.{register_bytes, registers_of, with_registers, zeros, raise, larger, lowered_at, lowered, not_zero_count, largest, raised_by, raised_lower, lowered_in_place, offset_rank, HoldsFirst, ReadPost, StorePost, RaisePost, BothHold, ScanPre, ScanPost, LowerPre, BlockPre, BlockPost, DowngradePre, SetListPre}
 
 -- ---- how registers lie: these alone know that a register is a byte
@@ -658,11 +658,11 @@ set_one p s d v i r x before after h room index ranks e raised =
     (e ∙ ap₂ (lowered_rank d) index.index ranks.value)
 
 -- With no bits to go a list raises the registers of its own precision.
-pub set_none : (enc : Sparse) (list bytes : List ℕ) → SparseFits enc → all_valid enc.normal_precision enc.sparse_precision list ≡ true
+pub set_none : (enc : Sparse) (list bytes : List ℕ) → all_valid enc.normal_precision enc.sparse_precision list ≡ true
     → register_bytes enc.normal_precision ≤ length bytes → SetListPre enc 0 list bytes
-set_none enc list bytes fits ok room =
+set_none enc list bytes ok room =
     let e : enc.normal_precision ≡ enc.normal_precision - 0 = omega arith in
-    record { fits = fits; ok = ok; few = zero-le; fewer = zero-le; room = subst (λ (n : ℕ). register_bytes n ≤ length bytes) e room }
+    record { ok = ok; few = zero-le; fewer = zero-le; room = subst (λ (n : ℕ). register_bytes n ≤ length bytes) e room }
 
 pub set_none_room : (enc : Sparse) (list bytes : List ℕ) → SetListPre enc 0 list bytes → register_bytes enc.normal_precision ≤ length bytes
 set_none_room enc list bytes pre =
