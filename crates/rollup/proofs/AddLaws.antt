@@ -5,8 +5,8 @@ use mathlib.Core.List.{Permᴰ}
 use Rattle.wire.specs.Reading.{Read, got, refused}
 use Rattle.wire.specs.State.{State}
 use Rattle.wire.specs.declared.view.StateView.{StateView}
-use Rattle.rollup.specs.Interim.{Decodes, decode_refusal}
-use Rattle.rollup.specs.declared.interim.DecodeError.{DecodeError}
+use Rattle.lists.specs.Lists.{Decodes}
+use Rattle.lists.specs.declared.decoding.DecodeError.{DecodeError}
 use Rattle.lists.proofs.DecodingLaws.{accepted}
 use Rattle.rollup.specs.declared.refusal.Refusal.{Refusal}
 use Rattle.rollup.specs.declared.refusal.Refusal.TheVariants.{BadList}
@@ -171,7 +171,7 @@ module _ {a : Accumulator} {distinct : Bool} {m : Mem} {scratch : List ℕ} {st 
 
 -- A list that is refused, and one that is read.
 listed_no : (x : Read (List ℕ)) (e : DecodeError) (out : List ℕ) → Decodes x (Err e) out → x ≡ refused (number (BadList e))
-listed_no (got vs l) e out d = absurd (let z : ◌≡◌ {A = ℕ} 0 1 = cc in omega arith)
+listed_no (got vs l) e out d = absurd d
 listed_no (refused k) e out d = ap refused (sym d)
 
 record Listed (x : Read (List ℕ)) (k : ℕ) (out : List ℕ) : Type 0 where
@@ -181,9 +181,7 @@ record Listed (x : Read (List ℕ)) (k : ℕ) (out : List ℕ) : Type 0 where
 
 listed_yes : (x : Read (List ℕ)) (k : ℕ) (out : List ℕ) → Decodes x (Ok k) out → Listed x k out
 listed_yes (got vs l) k out e =
-    let n : k ≡ length vs = (let z : Ok k ≡ Ok (length vs) = e.0 in cc) in
-    let same : take k out ≡ vs = ap (λ (j : ℕ). take j out) n ∙ e.1 in
-    record { rest = l; read = ap (λ (v : List ℕ). got v l) (sym same); count = n ∙ ap length (sym same) }
+    record { rest = l; read = ap (λ (v : List ℕ). got v l) (sym e.1); count = e.0 ∙ ap length (sym e.1) }
 listed_yes (refused n) k out e = absurd e
 
 module _ (a : Accumulator) (m : Mem) (room : ℕ) (bytes : List ℕ) (fit : fits a m ≡ true) where

@@ -131,31 +131,6 @@ module _ (q p s : ℕ) (vs registers : List ℕ) (pre : RaiseByListPre q p s vs 
       with_registers n (raised_lower enc.normal_precision enc.sparse_precision (p - q) (registers_of n registers) vs) registers) list_place
       ∙ ap₂ (λ (a b : ℕ). with_registers q (raised_lower a b (p - q) (registers_of q registers) vs) registers) new.normal new.sparse
 
-  list_same : p ≤ q → enc.normal_precision ≡ q
-  list_same h = omega (arith, new.normal, pre.order)
-
-  pub list_set : p ≤ q → SetListPre enc vs registers
-  list_set h =
-      record {
-        ok = list_valid;
-        room = subst (λ (n : ℕ). register_bytes n ≤ length registers) (sym (list_same h)) pre.room;
-      }
-
-  pub list_raised : (after : List ℕ) → p ≤ q
-      → after
-      ≡ with_registers enc.normal_precision
-      (raised_by enc.normal_precision enc.sparse_precision (registers_of enc.normal_precision registers) vs) registers
-      → after ≡ with_registers q (raised_lower p s (p - q) (registers_of q registers) vs) registers
-  list_raised after h e =
-      let same : p ≡ q = omega (arith, pre.order) in
-      e
-      ∙ ap₂ (λ (a b : ℕ). with_registers a (raised_by a b (registers_of a registers) vs) registers) new.normal new.sparse
-      ∙ ap (λ (a : ℕ). with_registers a (raised_by p s (registers_of a registers) vs) registers) same
-      ∙ ap (λ (l : List ℕ). with_registers q l registers)
-      (sym
-      (ap (λ (d : ℕ). raised_lower p s d (registers_of q registers) vs) (let g : p - q ≡ 0 = omega arith in g)
-      ∙ lower_none p s (registers_of q registers) vs))
-
 -- ---- either
 
 module _ (q : ℕ) (x : Incoming) (row vs registers : List ℕ) (pre : RaisePre q x row vs registers) where

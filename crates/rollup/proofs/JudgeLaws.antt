@@ -8,7 +8,8 @@ use Rattle.wire.specs.Reading.{Read, got, refused, and_then}
 use Rattle.wire.specs.State.{HllState, State, bytes_or_none, state_of, read_state, when_present, HllInside}
 use Rattle.wire.specs.Layout.{CutReading, cut_refused, cut_before_hll}
 use Rattle.wire.specs.declared.view.StateView.{StateView}
-use Rattle.lists.specs.Values.{Pair, NewPost, largest_rank}
+use Rattle.lists.specs.Values.{Pair, largest_rank}
+use Rattle.lists.specs.Pairs.{NewPost}
 use Rattle.lists.specs.Lists.{decode_of}
 use Rattle.lists.specs.Registers.{register_bytes, registers_of, largest, Holds}
 use Rattle.lists.specs.declared.values.Sparse.{Sparse as Encoding}
@@ -21,9 +22,10 @@ use Rattle.rollup.specs.declared.accumulator.Accumulator.{Accumulator}
 use Rattle.rollup.specs.declared.refusal.Refusal.{Refusal}
 use Rattle.rollup.specs.declared.refusal.Refusal.TheVariants.{TooLong, Unread}
 use Rattle.rollup.specs.Refusals.{number}
-use Rattle.rollup.specs.Interim.{ViewPost, Decodes}
-use Rattle.rollup.specs.declared.interim.ReadError.{ReadError}
-use Rattle.rollup.specs.declared.interim.DecodeError.{DecodeError}
+use Rattle.wire.specs.View.{ViewPost}
+use Rattle.lists.specs.Lists.{Decodes}
+use Rattle.wire.specs.declared.read_error.ReadError.{ReadError}
+use Rattle.lists.specs.declared.decoding.DecodeError.{DecodeError}
 use Rattle.rollup.proofs.RefusalLaws.{number_some}
 use Rattle.rollup.specs.Accumulator.{Mem, normal_range, sparse_range}
 use Rattle.rollup.specs.Header.{viewed, ask, first_no, data_of, list_of, is_empty, is_value_type, mask_of, state_type, state_version, kind_answer, list_has_precision, data_has_length, needs_pair, pair_in_range, structure_answer, registers_in_range, header_answer, passing, read_header}

@@ -1,10 +1,11 @@
 -- A refusal has a number above 0, so that an answer of 0 is one that was accepted.
 use Rattle.std.proofs.Common.{◌≡◌, ℕ, ◌<◌, Result, Ok, Err, arith}
-use Rattle.rollup.specs.Interim.{read_error_number, decode_refusal}
-use Rattle.rollup.specs.declared.interim.ReadError.{ReadError}
-use Rattle.rollup.specs.declared.interim.ReadError.TheVariants.{Truncated, VarintTooLong, InvalidTag, InvalidWireType}
-use Rattle.rollup.specs.declared.interim.DecodeError.{DecodeError}
-use Rattle.rollup.specs.declared.interim.DecodeError.TheVariants.{TruncatedGap, GapTooLong, InvalidValue}
+use Rattle.wire.specs.Reading.{read_error_number}
+use Rattle.lists.specs.Lists.{decode_refusal}
+use Rattle.wire.specs.declared.read_error.ReadError.{ReadError}
+use Rattle.wire.specs.declared.read_error.ReadError.TheVariants.{Truncated, VarintTooLong, InvalidTag, InvalidWireType}
+use Rattle.lists.specs.declared.decoding.DecodeError.{DecodeError}
+use Rattle.lists.specs.declared.decoding.DecodeError.TheVariants.{TruncatedGap, GapTooLong, InvalidValue}
 use Rattle.rollup.specs.declared.refusal.Refusal.{Refusal}
 use Rattle.rollup.specs.declared.refusal.Refusal.TheVariants.{Misfit, TooLong, Unread, WrongType, WrongVersion, UnknownValueType, NoSparsePrecision, BadPrecision, BadDataLength, BadSparsePrecision, BadRegister, NoCommonType, NotCarried, NoRoom, BadList, NotStarted, ListTooLong, OutputTooShort}
 use Rattle.rollup.specs.Refusals.{number}

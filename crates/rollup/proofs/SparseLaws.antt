@@ -244,7 +244,7 @@ module _ {enc : Encoding} {sparse : List ℕ} {n : ℕ} {pending : List ℕ} {w 
           let kept_length = length-take-le n sparse (let h : n ≤ length sparse = omega (arith, pre.in_sparse) in h) in
           record {
             merge =
-                sorted_merge both ordered tail (w + k) both_length in_order enc (take n sparse) spare pre.fits pre.order pre.kept_valid
+                sorted_merge both ordered tail (w + k) both_length in_order enc (take n sparse) spare pre.order pre.kept_valid
                 (valid_append p s (take w pending) (take k scratch) pre.waiting_valid pre.incoming_valid)
                 (omega (arith, pre.in_scratch, pre.in_sparse, same, kept_length));
             room = omega (arith, pre.in_sparse, ap length (sorted_front both ordered tail (w + k) both_length in_order), length_sort both, both_length);
@@ -370,7 +370,6 @@ module _ {h : Accumulator} {registers sparse scratch : List ℕ} {k : ℕ} (pre 
   pub insert_into : InsertPre enc sparse h.sparse_len new_values h.sparse_bytes
   insert_into =
       record {
-        fits = new.fits;
         room = omega (arith, pre.in_sparse, new_length);
         rises = pre.ready.order;
         distinct = of_pair new (λ (p s : ℕ). distinct_slots p s own ≡ true) pre.distinct;

@@ -1,6 +1,6 @@
 -- Writing: the questions one after the other, and what is written. `write_outcome`, `flushed`, `current_size`, `state_form`, `below_limit` and
 -- `list_outcome` are unfolded here alone.
-use Rattle.std.proofs.Common.{◌≡◌, ℕ, ◌+◌, ◌-◌, ◌^◌, ◌<◌, ◌≤◌, Bool, true, false, cond, leb, List, [], ◌++◌, length, take, drop, sym, refl, ap, ◌∙◌, subst, ap₂, ⊎_elim, append_assoc, append-nil, zero-add, arith, length-append, length-drop, drop_of_length-le, length-take-le, take_all, drop-drop, take_at, drop_at, ltb-true, le-ltb, lt-ltb, eq-eqb, ne_eqb, le-leb, leb-true}
+use Rattle.std.proofs.Common.{◌≡◌, ℕ, ◌+◌, ◌-◌, ◌^◌, ◌<◌, ◌≤◌, Bool, true, false, cond, leb, List, [], ◌++◌, length, take, drop, sym, refl, ap, ◌∙◌, subst, ⊎_elim, append_assoc, append-nil, zero-add, arith, length-append, length-drop, drop_of_length-le, length-take-le, take_all, drop-drop, take_at, drop_at, ltb-true, le-ltb, lt-ltb, eq-eqb, ne_eqb, le-leb, leb-true, ap₂, Result, Ok, Err}
 use mathlib.Core.List.Permᴰ
 use mathlib.Core.List.{Permᴰ}
 use mathlib.Core.Option.{none, some}
@@ -9,10 +9,12 @@ use borrow.Rule.Slice.PartMut.{mid_of, post_of, put_mid}
 use borrow.Author.Tests.{lt-leb}
 use Rattle.wire.specs.Varints.{PutPost}
 use Rattle.wire.specs.declared.state.Fields.{Fields}
-use Rattle.wire.specs.declared.encoding.Encoded.{Encoded}
-use Rattle.wire.specs.declared.encoding.Encoded.TheVariants.{Written as Put, Short}
+use Rattle.wire.specs.declared.view.StateView.{StateView}
+use Rattle.wire.specs.declared.encoding.EncodeError.{EncodeError}
+use Rattle.wire.specs.declared.encoding.EncodeError.TheVariants.{OutputTooShort}
 use Rattle.wire.specs.State.{State, state_of, bytes_or_none}
-use Rattle.wire.specs.Encoding.{head_of, hll_head, encode_of, Output, encode_step, EncodePost}
+use Rattle.rollup.specs.Header.{viewed}
+use Rattle.wire.specs.Encoding.{encoded_number, encoded_length, head_of, hll_head, encode_of, Output, encode_step, EncodePost}
 use Rattle.wire.proofs.VarintLaws.{side}
 use Rattle.wire.proofs.EncodingLaws.{head_any, head_tail, head_length, hll_head_le, outer_numbers_le, prefix_le, encode_yes, encode_no}
 use Rattle.lists.specs.declared.values.Sparse.{Sparse as Encoding}
@@ -98,18 +100,24 @@ module _ (a : Accumulator) (size : ℕ) (l : List ℕ) (bytes : ℕ) (pre : Valu
     to_encode space =
         go 22 (lt-ltb (written l) (limit a.precision) (let g : written l < limit a.precision = omega (arith, pre.count) in g))
 
-    module _ (f : Fields) (e : f ≡ written_fields a size false 0 bytes) where
-      pub head_pre : length (bytes_or_none (state_of [] f).hll.«data») + f.hll.sparse_data.len < 2 ^ 63
+    module _ (v : StateView) (b : v.bytes.now ≡ []) (e : v.fields ≡ written_fields a size false 0 bytes) where
+      view_is : viewed v ≡ state_of [] (written_fields a size false 0 bytes)
+      view_is = ap₂ state_of b e
+
+      list_len : v.fields.hll.sparse_data.len ≡ bytes
+      list_len = ap (λ (x : Fields). x.hll.sparse_data.len) e
+
+      pub head_pre : length (bytes_or_none (viewed v).hll.«data») + v.fields.hll.sparse_data.len < 2 ^ 63
       head_pre =
-          subst (λ (g : Fields). length (bytes_or_none (state_of [] g).hll.«data») + g.hll.sparse_data.len < 2 ^ 63) (sym e)
-          (let g : 0 + bytes < 2 ^ 63 = omega (arith, values_small) in g)
+          subst (λ (st : State). length (bytes_or_none st.hll.«data») + v.fields.hll.sparse_data.len < 2 ^ 63) (sym view_is)
+          (let g : 0 + v.fields.hll.sparse_data.len < 2 ^ 63 = omega (arith, values_small, list_len) in g)
 
       abbrev head : List ℕ
-      head = head_of (state_of [] f) f.hll.sparse_data.len
+      head = head_of (viewed v) v.fields.hll.sparse_data.len
 
       head_view : head ≡ head_of list_state bytes
       head_view =
-          ap (λ (g : Fields). head_of (state_of [] g) g.hll.sparse_data.len) e
+          ap₂ head_of view_is list_len
           ∙ head_any (state_of [] (written_fields a size false 0 bytes)) (some (encode_list l)) bytes
 
       whole : encode_of list_state ≡ head ++ encode_list l
@@ -139,9 +147,8 @@ module _ (a : Accumulator) (size : ℕ) (l : List ℕ) (bytes : ℕ) (pre : Valu
           writes_no (list_outcome a size l (length out)) 23 out
           (to_encode (length out) ∙ encode_no list_state (length out) (let k : length out < length (encode_of list_state) = omega (arith, whole_length) in k))
 
-      pub values_room : (out : List ℕ) (n : ℕ) → n ≡ length head → n + bytes ≤ length out → length head + f.hll.sparse_data.len ≤ length out
-      values_room out n g h =
-          let k : f.hll.sparse_data.len ≡ bytes = ap (λ (x : Fields). x.hll.sparse_data.len) e in omega arith
+      pub values_room : (out : List ℕ) (n : ℕ) → n ≡ length head → n + bytes ≤ length out → length head + v.fields.hll.sparse_data.len ≤ length out
+      values_room out n g h = omega (arith, list_len)
 
       module _ (out : List ℕ) (n : ℕ) (g : n ≡ length head) (h : n + bytes ≤ length out) (at : ℕ) (mid : List ℕ) (p : PutPost out 0 head at mid) where
         mid_length : length mid ≡ length out
@@ -182,27 +189,25 @@ module _ (a : Accumulator) (registers out : List ℕ) where
   abbrev dense_state : State
   dense_state = state_with a a.sparse_size (some (registers_of a.precision registers)) none
 
-  -- The data field is the register bytes.
-  state_view : (f : Fields) (n : ℕ) → n ≡ register_bytes a.precision → f ≡ written_fields a a.sparse_size true n 0 → state_of registers f ≡ dense_state
-  state_view f n e g =
-      ap (state_of registers) g
-      ∙ ap (λ (k : ℕ). state_with a a.sparse_size (some (take k registers)) none) e
-      ∙ ap (λ (d : List ℕ). state_with a a.sparse_size (some d) none) (sym (registers_are a.precision registers))
+  module _ (v : StateView) (b : v.bytes.now ≡ registers) (n : ℕ) (e : n ≡ register_bytes a.precision) (g : v.fields ≡ written_fields a a.sparse_size true n 0) where
+    -- The data field is the register bytes.
+    dense_view : viewed v ≡ dense_state
+    dense_view =
+        ap₂ state_of b g
+        ∙ ap (λ (k : ℕ). state_with a a.sparse_size (some (take k registers)) none) e
+        ∙ ap (λ (d : List ℕ). state_with a a.sparse_size (some d) none) (sym (registers_are a.precision registers))
 
-  module _ (f : Fields) (n : ℕ) (e : n ≡ register_bytes a.precision) (g : f ≡ written_fields a a.sparse_size true n 0) (r : Encoded) (after : List ℕ)
-      (p : EncodePost (state_of registers f) out r after) where
-    encoded : EncodePost dense_state out r after
-    encoded = subst (λ (st : State). EncodePost st out r after) (state_view f n e g) p
+    module _ (r : Result ℕ EncodeError) (after : List ℕ) (p : EncodePost (viewed v) out r after) where
+      encoded : Writes (encode_step dense_state (length out)) out (encoded_number r) (encoded_length r) after
+      encoded =
+          let q = subst (λ (st : State). EncodePost st out r after) dense_view p in
+          record { answered = q.answer; counted = q.written; output = q.output }
 
-    pub dense_23 : r ≡ Short → Writes (encode_step dense_state (length out)) out 23 0 after
-    dense_23 k =
-        let q = subst (λ (x : Encoded). EncodePost dense_state out x after) k encoded in
-        record { answered = q.answer; counted = q.written; output = q.output }
+    pub dense_23 : (k : EncodeError) (after : List ℕ) → EncodePost (viewed v) out (Err k) after → Writes (encode_step dense_state (length out)) out 23 0 after
+    dense_23 OutputTooShort after p = encoded (Err OutputTooShort) after p
 
-    pub dense_put : (j : ℕ) → r ≡ Put j → Writes (encode_step dense_state (length out)) out 0 j after
-    dense_put j k =
-        let q = subst (λ (x : Encoded). EncodePost dense_state out x after) k encoded in
-        record { answered = q.answer; counted = q.written; output = q.output }
+    pub dense_put : (j : ℕ) (after : List ℕ) → EncodePost (viewed v) out (Ok j) after → Writes (encode_step dense_state (length out)) out 0 j after
+    dense_put j after p = encoded (Ok j) after p
 
 -- ---- what is kept and what waits, as one list
 

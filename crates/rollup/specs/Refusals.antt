@@ -1,6 +1,7 @@
 -- Document 01's numbers of the refusals, and of an answer.
 use Rattle.std.specs.Prelude.{ℕ, Result, Ok, Err}
-use Rattle.rollup.specs.Interim.{read_error_number, decode_refusal}
+use Rattle.wire.specs.Reading.{read_error_number}
+use Rattle.lists.specs.Lists.{decode_refusal}
 use Rattle.rollup.specs.declared.refusal.Refusal.{Refusal}
 use Rattle.rollup.specs.declared.refusal.Refusal.TheVariants.{Misfit, TooLong, Unread, WrongType, WrongVersion, UnknownValueType, NoSparsePrecision, BadPrecision, BadDataLength, BadSparsePrecision, BadRegister, NoCommonType, NotCarried, NoRoom, BadList, NotStarted, ListTooLong, OutputTooShort}
 

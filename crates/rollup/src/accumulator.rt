@@ -2,7 +2,8 @@
 // zetasketch-rs at commit 9abe68bf87 (Apache-2.0, see NOTICE). Changed: the numbers alone, with counts in the place of `Vec`; an enum in the place of two flags; and
 // a contract on every function. A head is small and `Copy`, so that a method that only reads it takes it by value.
 ghost use Rattle.std.specs.Prelude.{◌≡◌, not};
-ghost use Rattle.lists.specs.Values.{Pair, NewPost};
+ghost use Rattle.lists.specs.Values.{Pair};
+ghost use Rattle.lists.specs.Pairs.{NewPost};
 ghost use Rattle.rollup.specs.Accumulator.{fresh, count_of, precisions_of, is_started};
 
 use lists::values::Sparse;

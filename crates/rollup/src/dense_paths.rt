@@ -49,12 +49,7 @@ fn raise_by_list(registers: &mut [u8], q: u32, p: u32, s: u32, values: &[u32])
     requires { RaiseByListPre q p s values.now registers.old }
     ensures { registers.new ≡ with_registers q (raised_lower p s (p - q) (registers_of q registers.old) values.now) registers.old }
 {
-    let enc = Sparse::new(p, s);
-    if q < p {
-        registers::set_registers_lower(registers, enc, p - q, values);
-    } else {
-        registers::set_registers(registers, enc, values);
-    }
+    registers::set_registers(registers, Sparse::new(p, s), p - q, values);
 }
 
 // A row or values raise registers of precision q.

@@ -80,9 +80,9 @@ impl Accumulator {
         ensures { result ≡ lists_fit self kept.now waiting.now }
     {
         let enc = self.encoding();
-        checking::all_valid(enc, waiting)
+        enc.all_valid(waiting)
             && checking::is_ascending(kept)
-            && checking::all_valid_ascending(enc, kept)
+            && enc.all_valid_ascending(kept)
             && merging::written_len(kept) <= self.sparse_bytes
     }
 

@@ -3,7 +3,7 @@
 // at commit 9abe68bf87 (Apache-2.0, see NOTICE). Changed: every question stands in front of the first store, a refusal has document 01's number, and a list is
 // read into a lent slice.
 ghost use Rattle.std.specs.Prelude.{◌≡◌, ◌+◌, ◌^◌, ◌<◌, ◌≤◌, length, IfOk};
-ghost use Rattle.rollup.specs.Interim.{Decodes};
+ghost use Rattle.lists.specs.Lists.{Decodes};
 ghost use Rattle.rollup.specs.Header.{viewed};
 ghost use Rattle.rollup.specs.Refusals.{answer_of};
 ghost use Rattle.rollup.specs.Lent.{mem_of};
@@ -14,8 +14,7 @@ use crate::accumulator::{Accumulator, Form};
 use crate::header;
 use crate::memory::Memory;
 use crate::refusal::Refusal;
-use crate::interim;
-use crate::interim::DecodeError;
+use lists::decoding::DecodeError;
 use lists::registers;
 use lists::values::Sparse;
 use wire::view::StateView;
@@ -28,7 +27,7 @@ pub fn read_header<'a>(bytes: &'a [u8]) -> Result<StateView<'a>, Refusal>
     if 2147483647 < bytes.len() {
         return Err(Refusal::TooLong);
     }
-    let view = interim::parse(bytes)?;
+    let view = StateView::parse(bytes)?;
     header::validate_header(view)?;
     Ok(view)
 }
@@ -139,5 +138,5 @@ pub(crate) fn decode_listed(view: StateView, scratch: &mut [u32]) -> Result<usiz
         return Ok(0);
     }
     let hll = view.fields.hll;
-    interim::decode_validated_into(Sparse::new(hll.precision, hll.sparse_precision), list, scratch)
+    Sparse::new(hll.precision, hll.sparse_precision).decode_validated_into(list, scratch)
 }

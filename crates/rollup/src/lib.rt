@@ -14,7 +14,6 @@ pub mod dense_paths;
 pub mod fitting;
 pub mod header;
 pub mod incoming;
-pub mod interim;
 pub mod judging;
 pub mod memory;
 pub mod paths;

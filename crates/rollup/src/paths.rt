@@ -7,7 +7,6 @@ ghost use Rattle.rollup.specs.Stages.{WaitPre, InsertsPre, PathPre};
 use crate::accumulator::{Accumulator, Form};
 use crate::fitting;
 use crate::incoming::Incoming;
-use lists::inserting;
 
 // The paths of values at a list roll-up.
 #[derive(Clone, Copy, Debug, PartialEq, Eq)]
@@ -36,7 +35,7 @@ impl Accumulator {
     {
         k <= 16
             && 16 * k <= self.sparse_len
-            && (distinct || inserting::has_distinct_slots(self.encoding(), kept))
+            && (distinct || self.encoding().has_distinct_slots(kept))
     }
 
     // The path of k values at a list roll-up; without values there is none.

@@ -1,9 +1,11 @@
 // Document 01's refusals: the first question that was answered with no.
 ghost use Rattle.std.specs.Prelude.{◌≡◌};
-ghost use Rattle.rollup.specs.declared.refusal.Refusal.TheVariants.{Unread, BadList};
+ghost use Rattle.rollup.specs.declared.refusal.Refusal.TheVariants.{Unread, BadList, OutputTooShort};
 ghost use Rattle.rollup.specs.Refusals.{number};
 
-use crate::interim::{DecodeError, ReadError};
+use lists::decoding::DecodeError;
+use wire::encoding::EncodeError;
+use wire::read_error::ReadError;
 
 #[derive(Clone, Copy, Debug, PartialEq, Eq)]
 pub enum Refusal {
@@ -72,5 +74,15 @@ impl From<DecodeError> for Refusal {
 
     fn from(e: DecodeError) -> Refusal {
         Refusal::BadList(e)
+    }
+}
+
+impl From<EncodeError> for Refusal {
+    ghost from_gives = { λ _ r. r ≡ OutputTooShort };
+
+    fn from(e: EncodeError) -> Refusal {
+        match e {
+            EncodeError::OutputTooShort => Refusal::OutputTooShort,
+        }
     }
 }

@@ -63,7 +63,7 @@ fn merge_back(
     requires { BackPre enc sparse.old n incoming.now scratch.old }
     ensures { MergePost enc.normal_precision enc.sparse_precision (take n sparse.old) incoming.now result sparse.new }
 {
-    let r = merging::merge_dedupe_into(enc, &sparse[..n], incoming, scratch);
+    let r = enc.merge_dedupe_into(&sparse[..n], incoming, scratch);
     append(sparse, 0, scratch, r.len);
     r
 }
@@ -192,13 +192,11 @@ impl Accumulator {
             &mut *memory.scratch,
         );
         let values = &scratch[..];
-        let r = inserting::insert_dedupe(
-            enc,
-            sparse,
-            self.sparse_len,
-            &values[..k],
-            self.sparse_bytes,
-        );
+        let kept = Merged {
+            len: self.sparse_len,
+            bytes: self.sparse_bytes,
+        };
+        let r = enc.insert_dedupe(sparse, kept, &values[..k]);
         self.settle(enc, registers, sparse, r)
     }
 

@@ -20,14 +20,22 @@ use lists::merging::Merged;
 use lists::registers::register_bytes;
 use lists::values::Sparse;
 use lists::{merging, sorting};
-use wire::encoding;
-use wire::encoding::Encoded;
-use wire::state::{Fields, HllFields, Part};
+use wire::fields::Part;
+use wire::state::{Fields, HllFields};
+use wire::view::StateView;
 
 impl Accumulator {
-    // The fields of a state of the head's numbers, with registers or with a list.
-    fn view(self, size: u32, dense: bool, data_len: usize, sparse_len: usize) -> Fields
-        ensures { result ≡ written_fields self size dense data_len sparse_len }
+    // A state of the head's numbers, with registers or with a list. Its registers are the first of `bytes`; of a list only how many bytes it has counts here.
+    fn view<'a>(
+        self,
+        bytes: &'a [u8],
+        size: u32,
+        dense: bool,
+        data_len: usize,
+        sparse_len: usize,
+    ) -> StateView<'a>
+        ensures fields { result.fields ≡ written_fields self size dense data_len sparse_len }
+        ensures same { result.bytes ≡ bytes.entry }
     {
         let data = Part {
             start: 0,
@@ -46,13 +54,14 @@ impl Accumulator {
             data,
             sparse_data,
         };
-        Fields {
+        let fields = Fields {
             aggregator_type: HYPERLOGLOG_PLUS_UNIQUE,
             num_values: self.num_values,
             encoding_version: ENCODING_VERSION,
             value_type: self.value_type,
             hll,
-        }
+        };
+        StateView { bytes, fields }
     }
 
     // ---- a list roll-up
@@ -71,12 +80,12 @@ impl Accumulator {
         if fitting::size_limit(self.precision) <= bytes {
             return Err(Refusal::ListTooLong);
         }
-        let f = self.view(size, false, 0, bytes);
-        let total = encoding::head_len(b"", f) + bytes;
+        let view = self.view(b"", size, false, 0, bytes);
+        let total = view.head_len() + bytes;
         if out.len() < total {
             return Err(Refusal::OutputTooShort);
         }
-        let at = encoding::encode_head(b"", f, out);
+        let at = view.encode_head(out);
         merging::encode_sparse(list, &mut out[at..]);
         Ok(total)
     }
@@ -103,7 +112,7 @@ impl Accumulator {
         let u = flush_pending(enc, kept, pending, self.pending_len, scratch);
         let list = &scratch[..u.len];
         self.write_values(
-            indices::distinct_indices(enc, list) as u32,
+            enc.distinct_indices(list) as u32,
             list,
             u.bytes,
             out,
@@ -117,12 +126,14 @@ impl Accumulator {
         requires { self.precision ≤ 24 }
         ensures { Writes (encode_step (state_with self self.sparse_size (some (registers_of self.precision registers.now)) none) (length out.old)) out.old (answer_of result) (length_of result) out.new }
     {
-        let f = self.view(self.sparse_size, true, register_bytes(self.precision), 0);
-        let r = encoding::encode(registers, f, out);
-        let Encoded::Written(n) = r else {
-            return Err(Refusal::OutputTooShort);
-        };
-        Ok(n)
+        let view = self.view(
+            registers,
+            self.sparse_size,
+            true,
+            register_bytes(self.precision),
+            0,
+        );
+        Ok(view.encode(out)?)
     }
 
     // ---- all of it. What is only read is lent as `&`, as C lends it const, and not as a whole `Memory`, which would ask more of callers.

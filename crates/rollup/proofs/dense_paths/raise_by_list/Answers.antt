@@ -5,5 +5,5 @@ use Rattle.rollup.proofs.dense_paths.raise_by_list.Goals as goal
 pub set_registers-requires : goal.set_registers-requires
 set_registers-requires c = list_set c.args.q c.args.p c.args.s c.args.values.now c.args.registers.now c.requires c.new.result c.new.ensures
 
-pub returns-else-q-p : goal.returns-else-q-p
-returns-else-q-p c = list_raised c.args.q c.args.p c.args.s c.args.values.now c.args.registers.now c.requires c.new-enc.result c.new-enc.ensures _ c.if-q-p.false c.set_registers.ensures
+pub returns : goal.returns
+returns c = list_raised c.args.q c.args.p c.args.s c.args.values.now c.args.registers.now c.requires c.new.result c.new.ensures _ c.set_registers.ensures
