@@ -11,7 +11,6 @@ use lib.Seq.{take-suc-set, drop-set-lt, drop-drop, take_all, take_at, length-tak
 use borrow.Author.Tests.{leb-true, leb-false, ltb-true, lt-ltb, le-leb, lt-leb, eq-eqb, ne_eqb}
 use Rattle.wire.proofs.BoolLaws.{both_true}
 use Rattle.rollup.specs.declared.accumulator.Accumulator.{Accumulator}
-use Rattle.rollup.specs.declared.adding.Added.{Added}
 use Rattle.rollup.specs.Accumulator.{Mem, fresh}
 use Rattle.rollup.specs.Adding.{AddPost}
 use Rattle.rollup.specs.Taking.{Free}
@@ -337,25 +336,25 @@ module _ (batch : List ℕ) (first : Mem) (room before at k : ℕ) (a : Accumula
             free = g.free;
           }
 
-      pub going_turn : (next : ℕ) (s : List ℕ) (r : Added) (n : Mem) → next ≡ next_at batch at → s ≡ state_at batch at → k < length old → AddPost a m room s r n
-          → Going batch first room at next (k + 1) r.head n old (set answers k r.answer)
-      going_turn next s r n e f room_left post =
-          let put : take (k + 1) (set answers k r.answer) ≡ take k answers ++ r.answer ∷ [] =
-          ap (λ (i : ℕ). take i (set answers k r.answer)) (let z : k + 1 ≡ suc k = omega arith in z)
-          ∙ take-suc-set answers k r.answer (omega (arith, g.long)) in
+      pub going_turn : (next : ℕ) (s : List ℕ) (answer : ℕ) (h : Accumulator) (n : Mem) → next ≡ next_at batch at → s ≡ state_at batch at → k < length old → AddPost a m room s answer h n
+          → Going batch first room at next (k + 1) h n old (set answers k answer)
+      going_turn next s answer h n e f room_left post =
+          let put : take (k + 1) (set answers k answer) ≡ take k answers ++ answer ∷ [] =
+          ap (λ (i : ℕ). take i (set answers k answer)) (let z : k + 1 ≡ suc k = omega arith in z)
+          ∙ take-suc-set answers k answer (omega (arith, g.long)) in
           let done = map (state_at batch) g.done in
-          let calls : added_all room (map (state_at batch) (g.done ++ at ∷ [])) (take (k + 1) (set answers k r.answer)) [] ≡ added room s r.answer ∷ added_all room done (take k answers) [] =
+          let calls : added_all room (map (state_at batch) (g.done ++ at ∷ [])) (take (k + 1) (set answers k answer)) [] ≡ added room s answer ∷ added_all room done (take k answers) [] =
           ap₂ (λ (states : List (List ℕ)) (l : List ℕ). added_all room states l []) (map-append (state_at batch) g.done (at ∷ [])) put
-          ∙ added_last room done (take k answers) (state_at batch at) r.answer [] (length-map g.done (state_at batch) ∙ g.count ∙ sym (length-take-le k answers (omega (arith, g.long))))
-          ∙ ap (λ (l : List ℕ). added room l r.answer ∷ added_all room done (take k answers) []) (sym f) in
+          ∙ added_last room done (take k answers) (state_at batch at) answer [] (length-map g.done (state_at batch) ∙ g.count ∙ sym (length-take-le k answers (omega (arith, g.long))))
+          ∙ ap (λ (l : List ℕ). added room l answer ∷ added_all room done (take k answers) []) (sym f) in
           record {
             done = g.done ++ at ∷ [];
             walk = walk_turn g.walk index ok next e;
             count = length-append g.done (at ∷ []) ∙ ap (λ (x : ℕ). x + 1) g.count;
             few = omega arith;
-            long = length-set answers k r.answer ∙ g.long;
-            untouched = untouched_next answers old k r.answer g.untouched;
-            run = subst (λ (c : List Call). Run first c r.head n) (sym calls) (adding room s r n g.run post);
+            long = length-set answers k answer ∙ g.long;
+            untouched = untouched_next answers old k answer g.untouched;
+            run = subst (λ (c : List Call). Run first c h n) (sym calls) (adding room s answer h n g.run post);
             free =
                 record {
                   registers = post.free.registers ∙ g.free.registers;

@@ -1,11 +1,13 @@
 // The records of a batch, and the loop that adds each record's state.
 ghost use Rattle.std.specs.Prelude.{◌≡◌, length, ◌+◌, ◌≤◌, ◌<◌, ◌^◌, true};
-ghost use Rattle.rollup.specs.Accumulator.{mem};
+ghost use Rattle.rollup.specs.Lent.{mem_of, SameLent};
 ghost use Rattle.batch.specs.Chain.{word_at, is_record, is_batch};
 ghost use Rattle.batch.specs.Batch.{RolledPost};
 
 use rollup::accumulator::Accumulator;
-use rollup::adding;
+use rollup::adding::Fitted;
+use rollup::memory::Memory;
+use rollup::refusal;
 
 // How the chain ended: with an index of zero; with a question's number, 24 or 25; or with more records than there are cells for answers.
 #[derive(Clone, Copy)]
@@ -68,19 +70,15 @@ pub(crate) fn is_batch(batch: &[u8]) -> bool
     batch.len() <= 65536
 }
 
-fn add_records(
-    batch: &[u8],
-    registers: &mut [u8],
-    sparse: &mut [u32],
-    pending: &mut [u32],
-    scratch: &mut [u32],
-    answers: &mut [u8],
-) -> Rolled
+fn add_records(batch: &[u8], memory: &mut Memory, answers: &mut [u8]) -> Rolled
     requires { is_batch batch.now ≡ true }
-    ensures { RolledPost batch.now (mem registers.old sparse.old pending.old) (length scratch.old) result (mem registers.new sparse.new pending.new) answers.old answers.new }
+    ensures rolled { RolledPost batch.now (mem_of memory.old) (length memory.old.scratch.now) result (mem_of memory.new) answers.old answers.new }
+    ensures same { SameLent memory.old memory.new }
 {
-    let mut head = Accumulator::new();
-    let mut distinct = false;
+    let mut fitted = Fitted {
+        head: Accumulator::new(),
+        distinct: false,
+    };
     let mut before: usize = 0;
     let mut at = word_at(batch, 0);
     let mut k: usize = 0;
@@ -88,7 +86,7 @@ fn add_records(
         if !is_record(batch, before, at) {
             let ending = Ending::Refused(25);
             return Rolled {
-                head,
+                head: fitted.head,
                 records: k,
                 ending,
             };
@@ -96,47 +94,30 @@ fn add_records(
         if k == answers.len() {
             let ending = Ending::Full;
             return Rolled {
-                head,
+                head: fitted.head,
                 records: k,
                 ending,
             };
         }
         let start = at + 8;
         let end = start + word_at(batch, at + 4);
-        let r = adding::add_fitting(
-            head,
-            distinct,
-            registers,
-            sparse,
-            pending,
-            scratch,
-            &batch[start..end],
-        );
-        head = r.head;
-        distinct = r.distinct;
-        answers[k] = r.answer;
+        answers[k] = refusal::answer_of(fitted.add(memory, &batch[start..end]));
         k += 1;
         before = at;
         at = word_at(batch, at);
     }
     let ending = Ending::Whole;
     Rolled {
-        head,
+        head: fitted.head,
         records: k,
         ending,
     }
 }
 
 // Adds the states of a batch to a fresh roll-up, in the order of the chain, and puts each answer into its record's cell.
-pub fn roll_up(
-    batch: &[u8],
-    registers: &mut [u8],
-    sparse: &mut [u32],
-    pending: &mut [u32],
-    scratch: &mut [u32],
-    answers: &mut [u8],
-) -> Rolled
-    ensures { RolledPost batch.now (mem registers.old sparse.old pending.old) (length scratch.old) result (mem registers.new sparse.new pending.new) answers.old answers.new }
+pub fn roll_up(batch: &[u8], memory: &mut Memory, answers: &mut [u8]) -> Rolled
+    ensures rolled { RolledPost batch.now (mem_of memory.old) (length memory.old.scratch.now) result (mem_of memory.new) answers.old answers.new }
+    ensures same { SameLent memory.old memory.new }
 {
     if !is_batch(batch) {
         let head = Accumulator::new();
@@ -147,5 +128,5 @@ pub fn roll_up(
             ending,
         };
     }
-    add_records(batch, registers, sparse, pending, scratch, answers)
+    add_records(batch, memory, answers)
 }

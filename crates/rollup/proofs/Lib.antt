@@ -3,6 +3,7 @@ pub mod StartLaws
 pub mod DenseLaws
 pub mod AddLaws
 pub mod FitLaws
+pub mod LentLaws
 pub mod RefusalLaws
 pub mod JudgeLaws
 pub mod TakeLaws

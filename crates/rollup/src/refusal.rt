@@ -1,7 +1,7 @@
 // Document 01's refusals: the first question that was answered with no.
 ghost use Rattle.std.specs.Prelude.{◌≡◌};
 ghost use Rattle.rollup.specs.declared.refusal.Refusal.TheVariants.{Unread, BadList, OutputTooShort};
-ghost use Rattle.rollup.specs.Refusals.{number};
+ghost use Rattle.rollup.specs.Refusals.{number, answer_of};
 
 use lists::decoding::DecodeError;
 use wire::encoding::EncodeError;
@@ -84,5 +84,15 @@ impl From<EncodeError> for Refusal {
         match e {
             EncodeError::OutputTooShort => Refusal::OutputTooShort,
         }
+    }
+}
+
+// The number of an answer, 0 for accepted.
+pub fn answer_of(r: Result<(), Refusal>) -> u8
+    ensures { result ≡ answer_of r }
+{
+    match r {
+        Ok(()) => 0,
+        Err(e) => e.number(),
     }
 }
