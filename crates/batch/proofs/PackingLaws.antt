@@ -1,5 +1,5 @@
 -- A batch made of states: what appending a record leaves is the batch of one more state, and walking a batch so made finds its states in order.
-use Prim.Native.Nat.{ℕ, suc, ◌+◌, ◌-◌, ◌*◌, ◌/◌, ◌%◌, ◌^◌, ◌<◌, ◌≤◌}
+use Prim.Native.Nat.{ℕ, zero, suc, ◌+◌, ◌-◌, ◌*◌, ◌/◌, ◌%◌, ◌^◌, ◌<◌, ◌≤◌}
 use mathlib.Core.Path.{◌≡◌, refl, sym, ap, ap₂, ◌∙◌, subst}
 use mathlib.Core.List.{List, [], ◌∷◌, ◌++◌, append_assoc, append-nil, map}
 use mathlib.Core.Bool.{Bool, true, ◌&&◌}
@@ -19,20 +19,6 @@ use Rattle.batch.proofs.ChainLaws.{chain_end, chain_next, chain_is}
 pub word_length : (v : ℕ) → length (word_bytes v) ≡ 4
 unfolding word_bytes
 word_length v = refl
-
--- Four stores.
-pub word_put : (out : List ℕ) (at v a b c d : ℕ) → a ≡ v % 256 → b ≡ v / 256 % 256 → c ≡ v / 65536 % 256 → d ≡ v / 16777216 % 256
-    → PutPost out at (word_bytes v) (at + 4) (set (set (set (set out at a) (at + 1) b) (at + 2) c) (at + 3) d)
-unfolding word_bytes
-word_put out at v a b c d ea eb ec ed =
-    record {
-      next = refl;
-      output =
-          let f : at + 1 ≡ suc at = omega arith in
-          let g : at + 2 ≡ suc (suc at) = omega arith in
-          let h : at + 3 ≡ suc (suc (suc at)) = omega arith in
-          rw (ea, eb, ec, ed, f, g, h);
-    }
 
 word_front : (v : ℕ) (l : List ℕ) → v < 2 ^ 32 → word_at (word_bytes v ++ l) 0 ≡ v
 unfolding word_at word_bytes
@@ -124,7 +110,8 @@ walks : (states : List (List ℕ)) (b : List ℕ) (n before e : ℕ) → length 
     → drop e b ≡ records_at e states → Finds b (chain_from n b before (index_of e states)) states
 unfolding records_at
 walks [] b n before e short low above inside bound at-e = subst (λ (c : Chain). Finds b c []) (sym (chain_end n b before 0 refl)) (record { found = refl; ending = refl })
-walks (s ∷ states) b n before e short low above inside bound at-e =
+walks (s ∷ states) b zero before e short low above inside bound at-e = absurd (let z : ⊥ = omega arith in z)
+walks (s ∷ states) b (suc n) before e short low above inside bound at-e =
     let past = e + 8 + length s in
     let next = index_of past states in
     let rest = records_at past states in
@@ -135,13 +122,10 @@ walks (s ∷ states) b n before e short low above inside bound at-e =
     let next_small : next < 2 ^ 32 = omega (arith, index_low past states) in
     let long : length_at b e ≡ length s = length_is b e next s rest at-e small in
     let ok : is_record b before e ≡ true = record_yes b before e low above (subst (λ (k : ℕ). e + 8 + k ≤ length b) (sym long) in_b) in
-    let first : before < length b = omega arith in
     let index : (e ≡ 0 → ⊥) = λ (z : e ≡ 0). let y : ⊥ = omega arith in y in
-    let step = chain_next b before e first index n bound ok in
-    let less : n ≡ suc step.fewer = step.less in
-    let others = walks states b step.fewer e past short (omega arith) (omega arith) in_b (omega arith) (rest_there b e next s rest at-e) in
+    let others = walks states b n e past short (omega arith) (omega arith) in_b (omega arith) (rest_there b e next s rest at-e) in
     subst (λ (c : Chain). Finds b c (s ∷ states))
-    (sym (step.same ∙ ap (λ (k : ℕ). onto e (chain_from step.fewer b e k)) (next_is b e next s rest at-e next_small)))
+    (sym (chain_next n b before e index ok ∙ ap (λ (k : ℕ). onto e (chain_from n b e k)) (next_is b e next s rest at-e next_small)))
     (record { found = ap₂ (λ (x : List ℕ) (l : List (List ℕ)). x ∷ l) (state_is b e next s rest at-e small) others.found; ending = others.ending })
 
 -- Packing and walking agree: the chain of a batch made of states has these states, in order, and ends with 0.

@@ -11,8 +11,7 @@ pub fn put_word(out: &mut [u8], at: usize, v: usize) -> usize
     requires { at + 4 ≤ length out.old }
     ensures { PutPost out.old at (word_bytes v) result out.new }
 {
-    out[at..at + 4].copy_from_slice(&v.to_le_bytes()[..4]);
-    at + 4
+    put_bytes(out, at, &v.to_le_bytes()[..4])
 }
 
 // Next index 0, length, state.
