@@ -9,7 +9,10 @@ use lib.Dec.{ltb, leb, eqb}
 use lib.ListN.{length, get_or, take, drop, set, length-set, length-append, length-map}
 use lib.Seq.{take-suc-set, drop-set-lt, drop-drop, take_all, take_at, length-take-le}
 use borrow.Author.Tests.{leb-true, leb-false, ltb-true, lt-ltb, le-leb, lt-leb, eq-eqb, ne_eqb}
+use Rattle.std.specs.Prelude.{⊤, Result, Ok, Err}
 use Rattle.wire.proofs.BoolLaws.{both_true, either}
+use Rattle.batch.specs.declared.chain.ChainError.{ChainError}
+use Rattle.batch.specs.declared.chain.ChainError.TheVariants.{NoBatch, Broken}
 use Rattle.batch.specs.Chain.{word_at, next_at, length_at, is_record, Chain, ends, onto, chain_from, is_batch, chain_of}
 
 -- ---- records
@@ -38,26 +41,26 @@ batch_size b e =
 
 -- ---- the chain from an index on
 
-pub chain_end : (n : ℕ) (b : List ℕ) (before i : ℕ) → i ≡ 0 → chain_from n b before i ≡ ends 0
+pub chain_end : (n : ℕ) (b : List ℕ) (before i : ℕ) → i ≡ 0 → chain_from n b before i ≡ ends (Ok tt)
 unfolding chain_from
 chain_end zero b before i e = refl
 chain_end (suc n) b before i e =
-    ap (λ (t : Bool). cond t (ends 0) (cond (is_record b before i) (onto i (chain_from n b i (next_at b i))) (ends 25))) (eq-eqb i 0 e)
+    ap (λ (t : Bool). cond t (ends (Ok tt)) (cond (is_record b before i) (onto i (chain_from n b i (next_at b i))) (ends (Err Broken)))) (eq-eqb i 0 e)
 
-pub chain_bad : (n : ℕ) (b : List ℕ) (before i : ℕ) → (i ≡ 0 → ⊥) → is_record b before i ≡ false → chain_from (suc n) b before i ≡ ends 25
+pub chain_bad : (n : ℕ) (b : List ℕ) (before i : ℕ) → (i ≡ 0 → ⊥) → is_record b before i ≡ false → chain_from (suc n) b before i ≡ ends (Err Broken)
 unfolding chain_from
 chain_bad n b before i index e =
     let next = onto i (chain_from n b i (next_at b i)) in
-    ap (λ (t : Bool). cond t (ends 0) (cond (is_record b before i) next (ends 25))) (ne_eqb i 0 index)
-    ∙ ap (λ (t : Bool). cond t next (ends 25)) e
+    ap (λ (t : Bool). cond t (ends (Ok tt)) (cond (is_record b before i) next (ends (Err Broken)))) (ne_eqb i 0 index)
+    ∙ ap (λ (t : Bool). cond t next (ends (Err Broken))) e
 
 pub chain_next : (n : ℕ) (b : List ℕ) (before i : ℕ) → (i ≡ 0 → ⊥) → is_record b before i ≡ true
     → chain_from (suc n) b before i ≡ onto i (chain_from n b i (next_at b i))
 unfolding chain_from
 chain_next n b before i index e =
     let next = onto i (chain_from n b i (next_at b i)) in
-    ap (λ (t : Bool). cond t (ends 0) (cond (is_record b before i) next (ends 25))) (ne_eqb i 0 index)
-    ∙ ap (λ (t : Bool). cond t next (ends 25)) e
+    ap (λ (t : Bool). cond t (ends (Ok tt)) (cond (is_record b before i) next (ends (Err Broken)))) (ne_eqb i 0 index)
+    ∙ ap (λ (t : Bool). cond t next (ends (Err Broken))) e
 
 -- Which bound it is counts for nothing, where it is large enough.
 pub chain_same : (n m : ℕ) (b : List ℕ) (before i : ℕ) → before < length b → length b ≤ before + n → length b ≤ before + m
@@ -66,13 +69,13 @@ unfolding chain_from
 chain_same zero m b before i within h k = absurd (let z : ⊥ = omega arith in z)
 chain_same (suc n) zero b before i within h k = absurd (let z : ⊥ = omega arith in z)
 chain_same (suc n) (suc m) b before i within h k =
-    ap (cond (eqb i 0) (ends 0))
-    (either (λ (c : Chain). c ≡ cond (is_record b before i) (onto i (chain_from m b i (next_at b i))) (ends 25)) (is_record b before i) (onto i (chain_from n b i (next_at b i))) (ends 25)
+    ap (cond (eqb i 0) (ends (Ok tt)))
+    (either (λ (c : Chain). c ≡ cond (is_record b before i) (onto i (chain_from m b i (next_at b i))) (ends (Err Broken))) (is_record b before i) (onto i (chain_from n b i (next_at b i))) (ends (Err Broken))
     (λ (e : is_record b before i ≡ true).
     let x = record_inside b before i e in
     ap (onto i) (chain_same n m b i (next_at b i) (omega (arith, x.inside)) (omega (arith, x.above)) (omega (arith, x.above)))
-    ∙ sym (ap (λ (t : Bool). cond t (onto i (chain_from m b i (next_at b i))) (ends 25)) e))
-    (λ (e : is_record b before i ≡ false). sym (ap (λ (t : Bool). cond t (onto i (chain_from m b i (next_at b i))) (ends 25)) e)))
+    ∙ sym (ap (λ (t : Bool). cond t (onto i (chain_from m b i (next_at b i))) (ends (Err Broken))) e))
+    (λ (e : is_record b before i ≡ false). sym (ap (λ (t : Bool). cond t (onto i (chain_from m b i (next_at b i))) (ends (Err Broken))) e)))
 
 -- A chain has no more records than its bound.
 chain_few : (n : ℕ) (b : List ℕ) (before i : ℕ) → length (chain_from n b before i).indices ≤ n
@@ -81,14 +84,14 @@ chain_few zero b before i = omega arith
 chain_few (suc n) b before i = go (eqb i 0) (is_record b before i) (chain_few n b i (next_at b i))
   where
     go : (x y : Bool) → length (chain_from n b i (next_at b i)).indices ≤ n
-        → length (cond x (ends 0) (cond y (onto i (chain_from n b i (next_at b i))) (ends 25))).indices ≤ suc n
+        → length (cond x (ends (Ok tt)) (cond y (onto i (chain_from n b i (next_at b i))) (ends (Err Broken)))).indices ≤ suc n
     go true y h = omega arith
     go false false h = omega arith
     go false true h = omega arith
 
-pub chain_is : (b : List ℕ) {t : Bool} → is_batch b ≡ t → chain_of b ≡ cond t (chain_from (length b) b 0 (word_at b 0)) (ends 24)
+pub chain_is : (b : List ℕ) {t : Bool} → is_batch b ≡ t → chain_of b ≡ cond t (chain_from (length b) b 0 (word_at b 0)) (ends (Err NoBatch))
 unfolding chain_of
-chain_is b e = ap (λ (t : Bool). cond t (chain_from (length b) b 0 (word_at b 0)) (ends 24)) e
+chain_is b e = ap (λ (t : Bool). cond t (chain_from (length b) b 0 (word_at b 0)) (ends (Err NoBatch))) e
 
 -- So no bytes have a chain of more than 65,536 records.
 pub chain_short : (b : List ℕ) → length (chain_of b).indices ≤ 65536
@@ -127,10 +130,10 @@ walk_start e = record { indices = ap (λ (c : Chain). c.indices) e; ending = ap 
 
 module _ {batch done : List ℕ} {rest : Chain} (w : Walk batch done rest) where
   -- Where the chain ends, the records that are done are all of its records.
-  pub walk_all : {n : ℕ} → rest ≡ ends n → (chain_of batch).indices ≡ done
+  pub walk_all : {r : Result ⊤ ChainError} → rest ≡ ends r → (chain_of batch).indices ≡ done
   walk_all e = w.indices ∙ ap (λ (c : Chain). done ++ c.indices) e ∙ append-nil done
 
-  pub walk_ending : {n : ℕ} → rest ≡ ends n → (chain_of batch).ending ≡ n
+  pub walk_ending : {r : Result ⊤ ChainError} → rest ≡ ends r → (chain_of batch).ending ≡ r
   walk_ending e = w.ending ∙ ap (λ (c : Chain). c.ending) e
 
   pub walk_turn : {i : ℕ} {next : Chain} → rest ≡ onto i next → Walk batch (done ++ i ∷ []) next

@@ -7,11 +7,10 @@ use mathlib.Core.Bool.{true, false}
 use native.Mathlib.Omega.{arith}
 use lib.ListN.{length, take, drop, set, length-set, length-take, length-drop, drop_of_length-le}
 use lib.Seq.{take-suc-set, length-take-le, take-nil, take_all}
-use Rattle.std.specs.Prelude.{Result}
+use Rattle.std.specs.Prelude.{⊤, Result}
 use Rattle.lists.proofs.MergingLaws.{rest_all}
 use Rattle.batch.specs.declared.chain.ChainError.{ChainError}
 use Rattle.batch.specs.Chain.{length_at, state_at, Chain, ends, onto, chain_of}
-use Rattle.batch.specs.Records.{ending_number}
 use Rattle.batch.specs.Unpacking.{WalkedPost}
 use Rattle.batch.proofs.ChainLaws.{Walk, walk_all, walk_ending, walk_few, walk_turn, untouched_next}
 
@@ -25,7 +24,7 @@ module _ {batch old : List ℕ} {rest : Chain} {k : ℕ} {indices : List ℕ} (g
   pub room_left : {i : ℕ} {next : Chain} → 65536 ≤ length indices → rest ≡ onto i next → k < length indices
   room_left room e = omega (arith, walk_few g.walk e, length-take-le k indices g.inside)
 
-  pub walked : (r : Result Unit ChainError) → rest ≡ ends (ending_number r) → WalkedPost batch old (record { records = k; ending = r }) indices
+  pub walked : (r : Result ⊤ ChainError) → rest ≡ ends r → WalkedPost batch old (record { records = k; ending = r }) indices
   walked r e =
       let all = walk_all g.walk e in
       record {
