@@ -1,130 +1,73 @@
-// The records of a batch, and the loop that adds each record's state.
-ghost use Rattle.std.specs.Prelude.{◌≡◌, length, ◌+◌, ◌≤◌, ◌<◌, ◌^◌, true};
-ghost use Rattle.rollup.specs.Accumulator.{mem};
-ghost use Rattle.batch.specs.Chain.{word_at, is_record, is_batch};
+// The loop that adds each record's state.
+ghost use Rattle.std.specs.Prelude.{◌≡◌, length};
+ghost use Rattle.rollup.specs.Accumulator.{mem, fresh};
+ghost use Rattle.batch.specs.declared.records.Ending.TheVariants.{Refused};
 ghost use Rattle.batch.specs.Batch.{RolledPost};
 
+use crate::chain::{ChainError, Records};
 use rollup::accumulator::Accumulator;
 use rollup::adding;
 
-// How the chain ended: with an index of zero; with a question's number, 24 or 25; or with more records than there are cells for answers.
-#[derive(Clone, Copy)]
+// Why not all records were added.
+#[derive(Clone, Copy, Debug, PartialEq, Eq)]
 pub enum Ending {
-    Whole,
-    Refused(u8),
+    // The chain breaks, or there is none.
+    Refused(ChainError),
+    // There are more records than cells for answers.
     Full,
 }
 
-// The accumulator after the last record, how many records there were, and how the chain ended.
+impl From<ChainError> for Ending {
+    ghost from_gives = { λ e r. r ≡ Refused e };
+
+    fn from(e: ChainError) -> Ending {
+        Ending::Refused(e)
+    }
+}
+
+// The accumulator after the last record, how many records there were, and whether they were all.
 #[derive(Clone, Copy)]
 pub struct Rolled {
     pub head: Accumulator,
     pub records: usize,
-    pub ending: Ending,
+    pub ending: Result<(), Ending>,
 }
 
-fn wide(b: u8) -> usize
-    ensures { (result ≡ b) × (result < 256) }
-{
-    b as usize
-}
-
-// Four bytes, low first.
-pub(crate) fn word_at(batch: &[u8], at: usize) -> usize
-    requires { at + 4 ≤ length batch.now }
-    ensures { (result ≡ word_at batch.now at) × (result < 2 ^ 32) }
-{
-    let low = wide(batch[at]) + 256 * wide(batch[at + 1]);
-    low + 65536 * wide(batch[at + 2]) + 16777216 * wide(batch[at + 3])
-}
-
-// 25: "is each index at least 4 and above the one before, and the record inside?" No sum is made before its parts are known to be small.
-pub(crate) fn is_record(batch: &[u8], before: usize, at: usize) -> bool
-    ensures { result ≡ is_record batch.now before at }
-{
-    if at < 4 {
-        return false;
-    }
-    if at <= before {
-        return false;
-    }
-    if batch.len() < 8 {
-        return false;
-    }
-    let last = batch.len() - 8;
-    if last < at {
-        return false;
-    }
-    word_at(batch, at + 4) <= last - at
-}
-
-// 24: "at most 65,536 bytes, at least 4?"
-pub(crate) fn is_batch(batch: &[u8]) -> bool
-    ensures { result ≡ is_batch batch.now }
-{
-    if batch.len() < 4 {
-        return false;
-    }
-    batch.len() <= 65536
-}
-
+// Adds the states in the order of the chain, puts each answer into its cell, and counts the records.
 fn add_records(
     batch: &[u8],
+    head: &mut Accumulator,
     registers: &mut [u8],
     sparse: &mut [u32],
     pending: &mut [u32],
     scratch: &mut [u32],
     answers: &mut [u8],
-) -> Rolled
-    requires { is_batch batch.now ≡ true }
-    ensures { RolledPost batch.now (mem registers.old sparse.old pending.old) (length scratch.old) result (mem registers.new sparse.new pending.new) answers.old answers.new }
+    records: &mut usize,
+) -> Result<(), Ending>
+    requires { (head.old ≡ fresh) × (records.old ≡ 0) }
+    ensures { RolledPost batch.now (mem registers.old sparse.old pending.old) (length scratch.old) (record { head = head.new; records = records.new; ending = result }) (mem registers.new sparse.new pending.new) answers.old answers.new }
 {
-    let mut head = Accumulator::new();
     let mut distinct = false;
-    let mut before: usize = 0;
-    let mut at = word_at(batch, 0);
-    let mut k: usize = 0;
-    while at != 0 {
-        if !is_record(batch, before, at) {
-            let ending = Ending::Refused(25);
-            return Rolled {
-                head,
-                records: k,
-                ending,
-            };
+    for record in Records::new(batch)? {
+        let record = record?;
+        if *records == answers.len() {
+            return Err(Ending::Full);
         }
-        if k == answers.len() {
-            let ending = Ending::Full;
-            return Rolled {
-                head,
-                records: k,
-                ending,
-            };
-        }
-        let start = at + 8;
-        let end = start + word_at(batch, at + 4);
         let r = adding::add_fitting(
-            head,
+            *head,
             distinct,
             registers,
             sparse,
             pending,
             scratch,
-            &batch[start..end],
+            record.state,
         );
-        head = r.head;
+        *head = r.head;
         distinct = r.distinct;
-        answers[k] = r.answer;
-        k += 1;
-        before = at;
-        at = word_at(batch, at);
+        answers[*records] = r.answer;
+        *records += 1;
     }
-    let ending = Ending::Whole;
-    Rolled {
-        head,
-        records: k,
-        ending,
-    }
+    Ok(())
 }
 
 // Adds the states of a batch to a fresh roll-up, in the order of the chain, and puts each answer into its record's cell.
@@ -138,14 +81,21 @@ pub fn roll_up(
 ) -> Rolled
     ensures { RolledPost batch.now (mem registers.old sparse.old pending.old) (length scratch.old) result (mem registers.new sparse.new pending.new) answers.old answers.new }
 {
-    if !is_batch(batch) {
-        let head = Accumulator::new();
-        let ending = Ending::Refused(24);
-        return Rolled {
-            head,
-            records: 0,
-            ending,
-        };
+    let mut head = Accumulator::new();
+    let mut records = 0;
+    let ending = add_records(
+        batch,
+        &mut head,
+        registers,
+        sparse,
+        pending,
+        scratch,
+        answers,
+        &mut records,
+    );
+    Rolled {
+        head,
+        records,
+        ending,
     }
-    add_records(batch, registers, sparse, pending, scratch, answers)
 }
