@@ -15,6 +15,7 @@ use Rattle.rollup.specs.declared.accumulator.Form.{Form}
 use Rattle.rollup.specs.declared.accumulator.Form.TheVariants.{Unstarted, Sparse, Dense}
 use Rattle.rollup.specs.declared.accumulator.Accumulator.{Accumulator}
 use Rattle.rollup.specs.Accumulator.{Mem, fits, fresh, is_started}
+use Rattle.rollup.specs.Refusals.{length_of}
 use Rattle.rollup.specs.Writing.{write_outcome}
 use Rattle.rollup.specs.Calls.{Unmoved, list_registers, rollup_registers}
 use Rattle.rollup.proofs.FitLaws.{fit_sparse}
@@ -85,10 +86,10 @@ pub few_records : {batch : List ℕ} {first : Mem} {room : ℕ} {old : List ℕ}
 few_records {batch} {old = old} p = omega (arith, p.rolled.records, length-take (length old) (states_of batch))
 
 pub written_inside : {batch : List ℕ} {first : Mem} {room : ℕ} {old : List ℕ} {space : ℕ} {out : List ℕ} {r : Report} {m : Mem} {answers after : List ℕ}
-    → ReportPost batch first room old space out r m answers after → r.written.len ≤ length after
+    → ReportPost batch first room old space out r m answers after → length_of r.written ≤ length after
 written_inside {room = room} {out = out} {r = r} p =
     let bytes = (write_outcome r.rolled.head p.between room (length out)).bytes in
-    omega (arith, p.written.len, ap length p.written.output, length-append bytes (drop (length bytes) out))
+    omega (arith, p.written.counted, ap length p.written.output, length-append bytes (drop (length bytes) out))
 
 -- ---- a list's registers always have room
 

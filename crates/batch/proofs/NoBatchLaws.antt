@@ -10,6 +10,7 @@ use borrow.Author.Tests.{le-leb}
 use Rattle.rollup.specs.declared.accumulator.Accumulator.{Accumulator}
 use Rattle.rollup.specs.Accumulator.{Mem, fresh}
 use Rattle.wire.specs.Encoding.{Output}
+use Rattle.rollup.specs.Refusals.{answer_of}
 use Rattle.rollup.specs.Writing.{write_outcome}
 use Rattle.rollup.specs.Calls.{Call, Steps, begun, adding, writing, moving}
 use Rattle.rollup.proofs.ViewLaws.{fresh_fits}
@@ -29,8 +30,8 @@ is_none (c ∷ calls) = false
 -- With no calls the head is as it was.
 steps_none : {a₀ : Accumulator} {m₀ : Mem} {calls : List Call} {a : Accumulator} {m : Mem} → calls ≡ [] → Steps a₀ m₀ calls a m → a ≡ a₀
 steps_none e begun = refl
-steps_none e (adding room bytes r n steps post) = absurd (true≢false (sym (ap is_none e)))
-steps_none e (writing room out r n after steps post) = absurd (true≢false (sym (ap is_none e)))
+steps_none e (adding room bytes answer head n steps post) = absurd (true≢false (sym (ap is_none e)))
+steps_none e (writing room out answer len n after steps post) = absurd (true≢false (sym (ap is_none e)))
 steps_none e (moving n steps post) = absurd (true≢false (sym (ap is_none e)))
 
 pub record NoBatch (r : Report) : Type 0 where
@@ -38,7 +39,7 @@ pub record NoBatch (r : Report) : Type 0 where
   pub ending : r.rolled.ending ≡ Refused 24
   pub head : r.rolled.head ≡ fresh
   pub count : r.not_zero ≡ Registers 0
-  pub written : r.written.answer ≡ 21
+  pub written : answer_of r.written ≡ 21
 
 pub no_batch_report : {batch : List ℕ} {first : Mem} {room : ℕ} {old : List ℕ} {space : ℕ} {out : List ℕ} {r : Report} {m : Mem} {answers after : List ℕ}
     → is_batch batch ≡ false → ReportPost batch first room old space out r m answers after → NoBatch r
@@ -50,7 +51,7 @@ no_batch_report {batch} {room = room} {old = old} {space = space} {out = out} {r
       head = head;
       count = p.count ∙ ap (λ (a : Accumulator). count_for a.form a p.between space) head;
       written =
-          p.written.answer
+          p.written.answered
           ∙ ap (λ (a : Accumulator). (write_outcome a p.between room (length out)).answer) head
           ∙ ap (λ (o : Output). o.answer) (write_fresh fresh p.between room (length out) (fresh_fits p.between) refl);
     }

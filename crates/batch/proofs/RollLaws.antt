@@ -11,7 +11,6 @@ use lib.Seq.{take-suc-set, drop-set-lt, drop-drop, take_all, take_at, length-tak
 use borrow.Author.Tests.{le-leb, lt-leb}
 use Rattle.std.specs.Prelude.{⊤, Result, Ok, Err}
 use Rattle.rollup.specs.declared.accumulator.Accumulator.{Accumulator}
-use Rattle.rollup.specs.declared.adding.Added.{Added}
 use Rattle.rollup.specs.Accumulator.{Mem, fresh}
 use Rattle.rollup.specs.Adding.{AddPost}
 use Rattle.rollup.specs.Taking.{Free}
@@ -138,24 +137,24 @@ module _ {batch : List ℕ} {first : Mem} {room : ℕ} {rest : Chain} {k : ℕ} 
         ∙ take_at (map (state_at batch) g.done) (map (state_at batch) rest) (length old) (omega (arith, length-map g.done (state_at batch), g.count, g.few)))
         (sym (ap (λ (t : Bool). cond t (refusing (chain_of batch).ending) (Err Full)) (lt-leb (length (chain_of batch).indices) (length old) many)))
 
-    pub going_turn : {s : List ℕ} {r : Added} {n : Mem} → s ≡ state_at batch i → k < length old → AddPost a m room s r n
-        → Going batch first room next (k + 1) r.head n old (set answers k r.answer)
-    going_turn {s} {r} {n} f room_left post =
-        let put : take (k + 1) (set answers k r.answer) ≡ take k answers ++ r.answer ∷ [] =
-        ap (λ (j : ℕ). take j (set answers k r.answer)) (let z : k + 1 ≡ suc k = omega arith in z) ∙ take-suc-set answers k r.answer (omega (arith, g.long)) in
+    pub going_turn : {s : List ℕ} {answer : ℕ} {h : Accumulator} {n : Mem} → s ≡ state_at batch i → k < length old → AddPost a m room s answer h n
+        → Going batch first room next (k + 1) h n old (set answers k answer)
+    going_turn {s} {answer} {h} {n} f room_left post =
+        let put : take (k + 1) (set answers k answer) ≡ take k answers ++ answer ∷ [] =
+        ap (λ (j : ℕ). take j (set answers k answer)) (let z : k + 1 ≡ suc k = omega arith in z) ∙ take-suc-set answers k answer (omega (arith, g.long)) in
         let done = map (state_at batch) g.done in
-        let calls : added_all room (map (state_at batch) (g.done ++ i ∷ [])) (take (k + 1) (set answers k r.answer)) [] ≡ added room s r.answer ∷ added_all room done (take k answers) [] =
+        let calls : added_all room (map (state_at batch) (g.done ++ i ∷ [])) (take (k + 1) (set answers k answer)) [] ≡ added room s answer ∷ added_all room done (take k answers) [] =
         ap₂ (λ (states : List (List ℕ)) (l : List ℕ). added_all room states l []) (map-append (state_at batch) g.done (i ∷ [])) put
-        ∙ added_last room done (take k answers) (state_at batch i) r.answer [] (length-map g.done (state_at batch) ∙ g.count ∙ sym (length-take-le k answers (omega (arith, g.long))))
-        ∙ ap (λ (l : List ℕ). added room l r.answer ∷ added_all room done (take k answers) []) (sym f) in
+        ∙ added_last room done (take k answers) (state_at batch i) answer [] (length-map g.done (state_at batch) ∙ g.count ∙ sym (length-take-le k answers (omega (arith, g.long))))
+        ∙ ap (λ (l : List ℕ). added room l answer ∷ added_all room done (take k answers) []) (sym f) in
         record {
           done = g.done ++ i ∷ [];
           walk = walk_turn g.walk more;
           count = length-append g.done (i ∷ []) ∙ ap (λ (x : ℕ). x + 1) g.count;
           few = omega arith;
-          long = length-set answers k r.answer ∙ g.long;
-          untouched = untouched_next answers old k r.answer g.untouched;
-          run = subst (λ (c : List Call). Run first c r.head n) (sym calls) (adding room s r n g.run post);
+          long = length-set answers k answer ∙ g.long;
+          untouched = untouched_next answers old k answer g.untouched;
+          run = subst (λ (c : List Call). Run first c h n) (sym calls) (adding room s answer h n g.run post);
           free =
               record {
                 registers = post.free.registers ∙ g.free.registers;

@@ -8,6 +8,7 @@ use Rattle.rollup.specs.declared.accumulator.Form.{Form}
 use Rattle.rollup.specs.declared.accumulator.Form.TheVariants.{Unstarted, Sparse, Dense}
 use Rattle.rollup.specs.declared.accumulator.Accumulator.{Accumulator}
 use Rattle.rollup.specs.Accumulator.{Mem}
+use Rattle.rollup.specs.Refusals.{answer_of, length_of}
 use Rattle.rollup.specs.Writing.{WritePost}
 use Rattle.rollup.specs.Calls.{rollup_registers}
 use Rattle.batch.specs.declared.closing.Count.{Count}
@@ -36,7 +37,7 @@ pub record ReportPost (batch : List ℕ) (first : Mem) (room : ℕ) (old : List 
   pub between : Mem
   pub rolled : RolledPost batch first room r.rolled between old answers
   pub count : r.not_zero ≡ count_for r.rolled.head.form r.rolled.head between space
-  pub written : WritePost r.rolled.head between room out r.written m after
+  pub written : WritePost r.rolled.head between room out (answer_of r.written) (length_of r.written) m after
 
 -- The piece is never too short where it is as long as the registers: question 17 has asked for these.
 unfoldable pub NeverShort : Type 0

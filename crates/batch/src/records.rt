@@ -1,12 +1,15 @@
 // The loop that adds each record's state.
-ghost use Rattle.std.specs.Prelude.{◌≡◌, length};
-ghost use Rattle.rollup.specs.Accumulator.{mem, fresh};
+ghost use Rattle.std.specs.Prelude.{◌≡◌, false, length};
+ghost use Rattle.rollup.specs.Accumulator.{fresh};
+ghost use Rattle.rollup.specs.Lent.{mem_of, SameLent};
 ghost use Rattle.batch.specs.declared.records.Ending.TheVariants.{Refused};
 ghost use Rattle.batch.specs.Batch.{RolledPost};
 
 use crate::chain::{ChainError, Records};
 use rollup::accumulator::Accumulator;
-use rollup::adding;
+use rollup::adding::Fitted;
+use rollup::memory::Memory;
+use rollup::refusal;
 
 // Why not all records were added.
 #[derive(Clone, Copy, Debug, PartialEq, Eq)]
@@ -26,7 +29,7 @@ impl From<ChainError> for Ending {
 }
 
 // The accumulator after the last record, how many records there were, and whether they were all.
-#[derive(Clone, Copy)]
+#[derive(Clone, Copy, Debug, PartialEq, Eq)]
 pub struct Rolled {
     pub head: Accumulator,
     pub records: usize,
@@ -36,65 +39,39 @@ pub struct Rolled {
 // Adds the states in the order of the chain, puts each answer into its cell, and counts the records.
 fn add_records(
     batch: &[u8],
-    head: &mut Accumulator,
-    registers: &mut [u8],
-    sparse: &mut [u32],
-    pending: &mut [u32],
-    scratch: &mut [u32],
+    fitted: &mut Fitted,
+    memory: &mut Memory,
     answers: &mut [u8],
     records: &mut usize,
 ) -> Result<(), Ending>
-    requires { (head.old ≡ fresh) × (records.old ≡ 0) }
-    ensures { RolledPost batch.now (mem registers.old sparse.old pending.old) (length scratch.old) (record { head = head.new; records = records.new; ending = result }) (mem registers.new sparse.new pending.new) answers.old answers.new }
+    requires { (fitted.old.head ≡ fresh) × (fitted.old.distinct ≡ false) × (records.old ≡ 0) }
+    ensures rolled { RolledPost batch.now (mem_of memory.old) (length memory.old.scratch.now) (record { head = fitted.new.head; records = records.new; ending = result }) (mem_of memory.new) answers.old answers.new }
+    ensures same { SameLent memory.old memory.new }
 {
-    let mut distinct = false;
     for record in Records::new(batch)? {
         let record = record?;
         if *records == answers.len() {
             return Err(Ending::Full);
         }
-        let r = adding::add_fitting(
-            *head,
-            distinct,
-            registers,
-            sparse,
-            pending,
-            scratch,
-            record.state,
-        );
-        *head = r.head;
-        distinct = r.distinct;
-        answers[*records] = r.answer;
+        answers[*records] = refusal::answer_of(fitted.add(memory, record.state));
         *records += 1;
     }
     Ok(())
 }
 
 // Adds the states of a batch to a fresh roll-up, in the order of the chain, and puts each answer into its record's cell.
-pub fn roll_up(
-    batch: &[u8],
-    registers: &mut [u8],
-    sparse: &mut [u32],
-    pending: &mut [u32],
-    scratch: &mut [u32],
-    answers: &mut [u8],
-) -> Rolled
-    ensures { RolledPost batch.now (mem registers.old sparse.old pending.old) (length scratch.old) result (mem registers.new sparse.new pending.new) answers.old answers.new }
+pub fn roll_up(batch: &[u8], memory: &mut Memory, answers: &mut [u8]) -> Rolled
+    ensures rolled { RolledPost batch.now (mem_of memory.old) (length memory.old.scratch.now) result (mem_of memory.new) answers.old answers.new }
+    ensures same { SameLent memory.old memory.new }
 {
-    let mut head = Accumulator::new();
+    let mut fitted = Fitted {
+        head: Accumulator::new(),
+        distinct: false,
+    };
     let mut records = 0;
-    let ending = add_records(
-        batch,
-        &mut head,
-        registers,
-        sparse,
-        pending,
-        scratch,
-        answers,
-        &mut records,
-    );
+    let ending = add_records(batch, &mut fitted, memory, answers, &mut records);
     Rolled {
-        head,
+        head: fitted.head,
         records,
         ending,
     }

@@ -1,5 +1,5 @@
 -- Laws of testing a list value by value: the whole is what was found so far and what the rest makes of it.
-use Rattle.std.proofs.Common.{◌≡◌, ℕ, suc, ◌+◌, ◌-◌, ◌<◌, ◌≤◌, Bool, true, false, ◌&&◌, leb, List, [], ◌∷◌, length, get_or, take, drop, sym, refl, ap, ◌∙◌, add-one, arith, take-append-drop, drop_of_length-le, take_all, drop-cons, le-leb}
+use Rattle.std.proofs.Common.{◌≡◌, ℕ, suc, ◌+◌, ◌-◌, ◌<◌, ◌≤◌, Bool, true, false, ◌&&◌, leb, List, [], ◌∷◌, length, get_or, take, drop, sym, refl, ap, ◌∙◌, ap₂, add-one, arith, take-append-drop, drop_of_length-le, take_all, drop-cons, le-leb}
 use mathlib.Core.Bool.{and_assoc, and-true}
 use Rattle.wire.proofs.BoolLaws.{absorbed}
 use Rattle.lists.specs.Values.{mark, valid}
@@ -32,27 +32,50 @@ module _ (p s : ℕ) (l : List ℕ) (i : ℕ) (all : Bool) where
   unfolding all_valid
   valid_end h = ap (λ (t : List ℕ). all && all_valid p s t) (drop_of_length-le l h) ∙ and-true all
 
+-- ---- neighbours
+
+-- Two neighbours, and what is left from the second of them on.
+pub record Neighbours (rest pair next : List ℕ) : Type 0 where
+  pub x : ℕ
+  pub y : ℕ
+  pub behind : List ℕ
+  pub whole : rest ≡ x ∷ y ∷ behind
+  pub two : pair ≡ x ∷ y ∷ []
+  pub on : next ≡ y ∷ behind
+
+pub neighbours : (rest pair next : List ℕ) (n : ℕ) → n ≡ 2 → n ≤ length rest → pair ≡ take n rest → next ≡ drop 1 rest → Neighbours rest pair next
+neighbours [] pair next n e h f g = absurd (let z : ⊥ = omega arith in z)
+neighbours (x ∷ []) pair next n e h f g = absurd (let z : ⊥ = omega arith in z)
+neighbours (x ∷ y ∷ l) pair next n e h f g = record { x = x; y = y; behind = l; whole = refl; two = f ∙ ap (λ (m : ℕ). take m (x ∷ y ∷ l)) e; on = g }
+
 -- ---- no value is less than the one before
 
-pub rising_start : (l : List ℕ) → ascends l ≡ not_before (get_or l 0 0) (drop 1 l)
+ascends_none : ascends [] ≡ true
 unfolding ascends
-rising_start [] = refl
-rising_start (x ∷ l) = ap (λ (t : Bool). t && not_before x l) (le-leb 0 x (let h : 0 ≤ x = omega arith in h))
+ascends_none = refl
 
-module _ (l : List ℕ) (i : ℕ) (all : Bool) where
-  rising_step : (last : ℕ) → i < length l → not_before last (drop i l) ≡ (leb last (get_or l i 0) && not_before (get_or l i 0) (drop (i + 1) l))
-  rising_step last h =
-      ap (not_before last) (drop-cons l i 0 h) ∙ ap (λ (n : ℕ). leb last (get_or l i 0) && not_before (get_or l i 0) (drop n l)) (sym (add-one i))
+ascends_one : (x : ℕ) → ascends (x ∷ []) ≡ true
+unfolding ascends
+ascends_one x = ap (λ (t : Bool). t && true) (le-leb 0 x (let h : 0 ≤ x = omega arith in h))
 
-  pub rising_turn : (next : Bool) → i < length l → next ≡ (all && leb (get_or l (i - 1) 0) (get_or l i 0))
-      → (all && not_before (get_or l (i - 1) 0) (drop i l)) ≡ (next && not_before (get_or l (i + 1 - 1) 0) (drop (i + 1) l))
-  rising_turn next h e =
-      ap (λ (t : Bool). all && t) (rising_step (get_or l (i - 1) 0) h)
-      ∙ test_more all next (leb (get_or l (i - 1) 0) (get_or l i 0)) (not_before (get_or l i 0) (drop (i + 1) l)) e
-      ∙ ap (λ (n : ℕ). next && not_before (get_or l n 0) (drop (i + 1) l)) (let f : i ≡ i + 1 - 1 = omega arith in f)
+ascends_two : (x y : ℕ) (l : List ℕ) → ascends (x ∷ y ∷ l) ≡ (leb x y && ascends (y ∷ l))
+unfolding ascends
+ascends_two x y l =
+    ap (λ (t : Bool). t && (leb x y && not_before y l)) (le-leb 0 x (let h : 0 ≤ x = omega arith in h))
+    ∙ ap (λ (t : Bool). leb x y && (t && not_before y l)) (sym (le-leb 0 y (let h : 0 ≤ y = omega arith in h)))
 
-  pub rising_end : length l ≤ i → (all && not_before (get_or l (i - 1) 0) (drop i l)) ≡ all
-  rising_end h = ap (λ (t : List ℕ). all && not_before (get_or l (i - 1) 0) t) (drop_of_length-le l h) ∙ and-true all
+pub rising_turn : (all : Bool) {rest pair next : List ℕ} → Neighbours rest pair next
+    → (all && ascends rest) ≡ ((all && leb (get_or pair 0 0) (get_or pair 1 0)) && ascends next)
+rising_turn all n =
+    ap (λ (l : List ℕ). all && ascends l) n.whole
+    ∙ ap (λ (t : Bool). all && t) (ascends_two n.x n.y n.behind)
+    ∙ sym (and_assoc all (leb n.x n.y) (ascends (n.y ∷ n.behind)))
+    ∙ ap₂ (λ (w l : List ℕ). (all && leb (get_or w 0 0) (get_or w 1 0)) && ascends l) (sym n.two) (sym n.on)
+
+pub rising_end : (all : Bool) (rest : List ℕ) (n : ℕ) → n ≡ 2 → length rest < n → (all && ascends rest) ≡ all
+rising_end all [] n e h = ap (λ (t : Bool). all && t) ascends_none ∙ and-true all
+rising_end all (x ∷ []) n e h = ap (λ (t : Bool). all && t) (ascends_one x) ∙ and-true all
+rising_end all (x ∷ y ∷ l) n e h = absurd (let z : ⊥ = omega arith in z)
 
 -- ---- every value of an ascending list is valid
 

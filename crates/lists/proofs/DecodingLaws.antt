@@ -1,24 +1,31 @@
 -- Laws of reading lists: a gap, one value after another, what an accepted list is, and that what is written is read back.
-use Rattle.std.proofs.Common.{◌≡◌, ℕ, zero, suc, ◌+◌, ◌-◌, ◌*◌, ◌%◌, ◌^◌, ◌<◌, ◌≤◌, Bool, true, false, cond, not, ◌&&◌, ◌||◌, eqb, ltb, leb, ◌⊎◌, List, [], ◌∷◌, ◌++◌, length, get_or, take, drop, set, sym, refl, ap, ◌∙◌, subst, ap₂, inl, inr, ⊎_elim, append_assoc, append-nil, le_trans, le_refl, lt_of_le_of_lt, add-one, arith, length-append, length-drop, drop_of_length-le, length-take-le, take-suc-set, pow_pos, ltb-false, ltb-true, le-ltb, lt-ltb, le-leb, leb-true}
+use Rattle.std.proofs.Common.{◌≡◌, ℕ, zero, suc, ◌+◌, ◌-◌, ◌*◌, ◌%◌, ◌^◌, ◌<◌, ◌≤◌, Bool, true, false, cond, not, ◌&&◌, ◌||◌, eqb, ltb, leb, ◌⊎◌, List, [], ◌∷◌, ◌++◌, length, take, drop, set, sym, refl, ap, ◌∙◌, subst, ap₂, inl, inr, ⊎_elim, append_assoc, append-nil, le_trans, le_refl, lt_of_le_of_lt, add-one, arith, length-append, length-drop, drop_of_length-le, length-take-le, take-suc-set, pow_pos, ltb-false, ltb-true, le-ltb, lt-ltb, le-leb, leb-true, Result, Ok, Err, IsErrAnd}
 use mathlib.Core.Bool.{and_assoc, and-true}
 use borrow.Author.Tests.{not-false}
 use Rattle.wire.proofs.BoolLaws.{both, both_true, absorbed, whichever}
 use Rattle.wire.specs.Reading.{Read, got, refused, and_then}
 use Rattle.wire.specs.Varints.{varint_of, varint_bytes}
-use Rattle.wire.proofs.VarintLaws.{side, Begun, begun_long, begun_end, begun_last, begun_more, len_pos, there_and_back, short_varint}
+use Rattle.wire.proofs.VarintLaws.{side, Begun, begun_none, begun_long, begun_end, begun_last, begun_more, len_pos, there_and_back, short_varint}
 use denote.Enum.Declared as E
-use Rattle.lists.specs.contracts.decoding.Gap.{enum as gap-enum}
-use Rattle.lists.specs.contracts.decoding.Step.{enum as step-enum}
-use Rattle.lists.specs.declared.decoding.Gap.{Gap}
-use Rattle.lists.specs.declared.decoding.Gap.TheVariants.{Value, Cut, Long}
-use Rattle.lists.specs.declared.decoding.Step.{Step}
-use Rattle.lists.specs.declared.decoding.Step.TheVariants.{Next, Refused as StepRefused}
-use Rattle.lists.specs.declared.decoding.Decoded.TheVariants.{Done, Refused}
+use Rattle.lists.specs.contracts.decoding.DecodeError.{the_type}
+use Rattle.lists.specs.declared.decoding.DecodeError.{DecodeError}
+use Rattle.lists.specs.declared.decoding.DecodeError.TheVariants.{TruncatedGap, GapTooLong, InvalidValue}
 use Rattle.lists.specs.Values.{mark, marked, marked_end, least_marked_rank, marked_rank_fits, valid, Pair}
 use Rattle.lists.specs.Sorting.{not_before, ascends}
-use Rattle.lists.specs.Lists.{gap_answer, gap_of, GapPost, gap_refusal, refused_here, before, sums_of, step_of, step_refusal, NextValuePost, all_valid, no_plain, later_plain, ends_valid, decode_of, Decodes, encode_from, encode_list, written_from, written}
+use Rattle.lists.specs.Lists.{gap_answer, gap_of, BytePost, GapPost, decode_refusal, refused_here, before, sums_of, step_of, NextValuePost, all_valid, no_plain, later_plain, ends_valid, decode_of, Decodes, encode_from, encode_list, written_from, written}
 use Rattle.lists.proofs.UnfitRank.{unfit_rank}
 use Rattle.lists.proofs.ValueLaws.{decided, mark_64, mark_index, plain_end_mark, least_le, above_mark, small_valid, valid_plain, valid_index, valid_fits, marked_near, marked_fitting, valid_lt}
+
+-- The number of an error, as `e as u8` has it.
+pub error_number : (e : DecodeError) → E.tag_of the_type e + 18 ≡ decode_refusal e
+error_number TruncatedGap = refl
+error_number GapTooLong = refl
+error_number InvalidValue = refl
+
+-- What `?` hands on.
+pub handed_on : {T E : Type 0} (P : Result T E → Type 0) (r : Result T E) (e : E) → IsErrAnd r (λ (x : E). x ≡ e) → P (Err e) → P r
+handed_on P (Ok v) e h p = absurd h
+handed_on {E = E} P (Err x) e h p = subst (λ (y : E). P (Err y)) (sym h) p
 
 -- ---- a gap
 
@@ -33,28 +40,105 @@ gap_large : (v : ℕ) (rest : List ℕ) → 2 ^ 32 ≤ v → gap_answer (got v r
 gap_large v rest h = rw (le-ltb v (2 ^ 32) h)
 
 module _ {s : List ℕ} {start at w x : ℕ} (n : ℕ) (g : Begun 5 s start at (suc n) w x) where
-  pub gap_cut : length s ≤ at → GapPost s start Cut
-  gap_cut h = record { answer = gap_is (drop start s) (refused 3) (begun_end n g h); inside = tt }
-
-  pub gap_last : {b v : ℕ} → at < length s → b ≡ get_or s at 0 → b < 128 → v ≡ x + b * w → v < 2 ^ 32 → GapPost s start (Value v (at + 1))
-  gap_last {b} {v} inside e l f h =
+  gap_cut : {e : DecodeError} → BytePost s at (Err e) → GapPost s start (Err e)
+  gap_cut f =
       record {
-        answer =
-            sym (gap_small v (drop (at + 1) s) h)
-            ∙ gap_is (drop start s) (got v (drop (at + 1) s)) (begun_last n g inside e l ∙ ap (λ (y : ℕ). got y (drop (at + 1) s)) (sym f));
-        inside = (omega (arith, g.on), omega arith);
+        answer = ap (λ (e : DecodeError). refused (decode_refusal e)) f.1 ∙ gap_is (drop start s) (refused 3) (begun_end n g f.0);
+        inside = tt;
       }
 
+  module _ {b : ℕ} (f : BytePost s at (Ok b)) {next : ℕ} (on : next ≡ at + 1) where
+    gap_last : {v : ℕ} → b < 128 → v ≡ x + b * w → v < 2 ^ 32 → GapPost s start (Ok (v, next))
+    gap_last {v} l e h =
+        subst (λ (k : ℕ). GapPost s start (Ok (v, k))) (sym on)
+        (record {
+          answer =
+              sym (gap_small v (drop (at + 1) s) h)
+              ∙ gap_is (drop start s) (got v (drop (at + 1) s)) (begun_last n g f.0 f.1 l ∙ ap (λ (y : ℕ). got y (drop (at + 1) s)) (sym e));
+          inside = (omega (arith, g.on), omega (arith, f.0));
+        })
+
+    -- A byte that another follows has 128 too much.
+    gap_more : {z : ℕ} → 128 ≤ b → z ≡ x + (b - 128) * w → Begun 5 s start next n (w * 128) z
+    gap_more {z} l e =
+        subst (λ (k : ℕ). Begun 5 s start k n (w * 128) z) (sym on)
+        (begun_more n g f.0 f.1 l (e ∙ ap (λ (y : ℕ). x + y * w) (let h : b - 128 ≡ b % 128 = omega (arith, f.2) in h)))
+
 -- A fifth byte with a bit of f0: of 16 to 127 it makes a value of 2^32 or more, and of 128 or more one of more than five bytes.
-pub gap_long : {s : List ℕ} {start at x b : ℕ} → Begun 5 s start at 1 0x1000_0000 x → at < length s → b ≡ get_or s at 0 → 16 ≤ b → GapPost s start Long
-gap_long {s} {start} {at} {x} {b} g inside e h =
+gap_long : {s : List ℕ} {start at x b : ℕ} → Begun 5 s start at 1 0x1000_0000 x → BytePost s at (Ok b) → 16 ≤ b → GapPost s start (Err GapTooLong)
+gap_long {s} {start} {at} {x} {b} g f h =
     ⊎_elim
     (λ (l : b < 128).
-    long (sym (gap_large (x + b * 0x1000_0000) (drop (at + 1) s) (omega arith)) ∙ gap_is (drop start s) _ (begun_last 0 g inside e l)))
-    (λ (l : 128 ≤ b). long (gap_is (drop start s) (refused 4) (begun_long (begun_more 0 g inside e l refl)))) (side b 128)
+    long (sym (gap_large (x + b * 0x1000_0000) (drop (at + 1) s) (omega arith)) ∙ gap_is (drop start s) _ (begun_last 0 g f.0 f.1 l)))
+    (λ (l : 128 ≤ b). long (gap_is (drop start s) (refused 4) (begun_long (begun_more 0 g f.0 f.1 l refl)))) (side b 128)
   where
-    long : refused 19 ≡ gap_of (drop start s) → GapPost s start Long
+    long : refused 19 ≡ gap_of (drop start s) → GapPost s start (Err GapTooLong)
     long f = record { answer = f; inside = tt }
+
+-- The bytes of a gap one after the other, as the code sums them up.
+module _ (s : List ℕ) (at : ℕ) where
+  pub cut_1 : {e : DecodeError} → BytePost s at (Err e) → GapPost s at (Err e)
+  cut_1 = gap_cut 4 (begun_none 5 s at)
+
+  module _ (a : ℕ) (fa : BytePost s at (Ok a)) where
+    pub last_1 : a < 128 → GapPost s at (Ok (a, at + 1))
+    last_1 l = gap_last 4 (begun_none 5 s at) fa refl l (omega arith) (omega arith)
+
+    module _ (la : 128 ≤ a) where
+      past_1 : Begun 5 s at (at + 1) 4 128 (a - 128)
+      past_1 = gap_more 4 (begun_none 5 s at) fa refl la (omega arith)
+
+      pub cut_2 : {e : DecodeError} → BytePost s (at + 1) (Err e) → GapPost s at (Err e)
+      cut_2 = gap_cut 3 past_1
+
+      module _ (b : ℕ) (fb : BytePost s (at + 1) (Ok b)) where
+        abbrev two : ℕ
+        two = a - 128 + b * 128
+
+        pub last_2 : b < 128 → GapPost s at (Ok (two, at + 2))
+        last_2 l = gap_last 3 past_1 fb (omega arith) l (omega arith) (omega (arith, past_1.small))
+
+        module _ (lb : 128 ≤ b) where
+          past_2 : Begun 5 s at (at + 2) 3 16384 (two - 16384)
+          past_2 = gap_more 3 past_1 fb (omega arith) lb (omega arith)
+
+          pub cut_3 : {e : DecodeError} → BytePost s (at + 2) (Err e) → GapPost s at (Err e)
+          cut_3 = gap_cut 2 past_2
+
+          module _ (c : ℕ) (fc : BytePost s (at + 2) (Ok c)) where
+            abbrev three : ℕ
+            three = two - 16384 + c * 16384
+
+            pub last_3 : c < 128 → GapPost s at (Ok (three, at + 3))
+            last_3 l = gap_last 2 past_2 fc (omega arith) l (omega arith) (omega (arith, past_2.small))
+
+            module _ (lc : 128 ≤ c) where
+              past_3 : Begun 5 s at (at + 3) 2 2097152 (three - 2097152)
+              past_3 = gap_more 2 past_2 fc (omega arith) lc (omega arith)
+
+              pub cut_4 : {e : DecodeError} → BytePost s (at + 3) (Err e) → GapPost s at (Err e)
+              cut_4 = gap_cut 1 past_3
+
+              module _ (d : ℕ) (fd : BytePost s (at + 3) (Ok d)) where
+                abbrev four : ℕ
+                four = three - 2097152 + d * 2097152
+
+                pub last_4 : d < 128 → GapPost s at (Ok (four, at + 4))
+                last_4 l = gap_last 1 past_3 fd (omega arith) l (omega arith) (omega (arith, past_3.small))
+
+                module _ (ld : 128 ≤ d) where
+                  past_4 : Begun 5 s at (at + 4) 1 268435456 (four - 268435456)
+                  past_4 = gap_more 1 past_3 fd (omega arith) ld (omega arith)
+
+                  pub cut_5 : {e : DecodeError} → BytePost s (at + 4) (Err e) → GapPost s at (Err e)
+                  cut_5 = gap_cut 0 past_4
+
+                  module _ (e : ℕ) (fe : BytePost s (at + 4) (Ok e)) where
+                    pub last_5 : e < 16 → GapPost s at (Ok (four - 268435456 + e * 268435456, at + 5))
+                    last_5 l = gap_last 0 past_4 fe (omega arith) (omega arith) (omega arith) (omega (arith, past_4.small))
+
+                    pub long_5 : 16 ≤ e → GapPost s at (Err GapTooLong)
+                    long_5 l = gap_long past_4 fe l
 
 -- ---- tests
 
@@ -190,39 +274,23 @@ module _ (p s : ℕ) (bytes : List ℕ) (at last : ℕ) where
   unfolding step_of
   step_of_lem r e = ap (λ (x : Read ℕ). and_then x (step_from p s last)) e
 
-  step_is : (gap next v : ℕ) → GapPost bytes at (Value gap next) → v ≡ (last + gap) % 2 ^ 32 → (t : Bool) → t ≡ refused_here p s last v
+  step_is : (gap next v : ℕ) → GapPost bytes at (Ok (gap, next)) → v ≡ (last + gap) % 2 ^ 32 → (t : Bool) → t ≡ refused_here p s last v
       → cond t (refused 20) (got v (drop next bytes)) ≡ step_of p s (drop at bytes) last
   step_is gap next v g e t f =
       ap (λ (x : Bool). cond x (refused 20) (got v (drop next bytes))) f
       ∙ ap (λ (x : ℕ). cond (refused_here p s last x) (refused 20) (got x (drop next bytes))) e
       ∙ step_of_lem (got gap (drop next bytes)) g.answer
 
--- The tags of `Gap` and `Step` other than that of a value.
-abbrev pub NoGap : Gap → Type 0
-NoGap g = (E.tag_of (E.declared gap-enum) g ≡ 1) ⊎ (E.tag_of (E.declared gap-enum) g ≡ 2)
-
-abbrev pub NoStep : Step → Type 0
-NoStep r = E.tag_of (E.declared step-enum) r ≡ 1
-
 module _ {p s : ℕ} {bytes : List ℕ} {at last : ℕ} where
-  step_cut : GapPost bytes at Cut → NextValuePost p s bytes at last (StepRefused 18)
-  step_cut g = record { answer = step_of_lem p s bytes at last (refused 18) g.answer; inside = tt }
+  pub step_no_gap : (e : DecodeError) → GapPost bytes at (Err e) → NextValuePost p s bytes at last (Err e)
+  step_no_gap e g = record { answer = step_of_lem p s bytes at last (refused (decode_refusal e)) g.answer; inside = tt }
 
-  step_long : GapPost bytes at Long → NextValuePost p s bytes at last (StepRefused 19)
-  step_long g = record { answer = step_of_lem p s bytes at last (refused 19) g.answer; inside = tt }
-
-  pub step_no_gap : (g : Gap) (n : ℕ) → NoGap g → GapPost bytes at g → n ≡ gap_refusal g → NextValuePost p s bytes at last (StepRefused n)
-  step_no_gap (Value v next) n (inl k) a e = absurd (let z : ⊥ = omega arith in z)
-  step_no_gap (Value v next) n (inr k) a e = absurd (let z : ⊥ = omega arith in z)
-  step_no_gap Cut n k a e = subst (λ (j : ℕ). NextValuePost p s bytes at last (StepRefused j)) (sym e) (step_cut a)
-  step_no_gap Long n k a e = subst (λ (j : ℕ). NextValuePost p s bytes at last (StepRefused j)) (sym e) (step_long a)
-
-  pub step_refused : {gap next : ℕ} (v : ℕ) → GapPost bytes at (Value gap next) → v ≡ (last + gap) % 2 ^ 32 → true ≡ refused_here p s last v
-      → NextValuePost p s bytes at last (StepRefused 20)
+  pub step_refused : {gap next : ℕ} (v : ℕ) → GapPost bytes at (Ok (gap, next)) → v ≡ (last + gap) % 2 ^ 32 → true ≡ refused_here p s last v
+      → NextValuePost p s bytes at last (Err InvalidValue)
   step_refused {gap} {next} v g e f = record { answer = step_is p s bytes at last gap next v g e true f; inside = tt }
 
-  pub step_next : {gap next v : ℕ} → GapPost bytes at (Value gap next) → v ≡ (last + gap) % 2 ^ 32 → false ≡ refused_here p s last v
-      → NextValuePost p s bytes at last (Next v next)
+  pub step_next : {gap next v : ℕ} → GapPost bytes at (Ok (gap, next)) → v ≡ (last + gap) % 2 ^ 32 → false ≡ refused_here p s last v
+      → NextValuePost p s bytes at last (Ok (v, next))
   step_next {gap} {next} {v} g e f = record { answer = step_is p s bytes at last gap next v g e false f; inside = g.inside }
 
 -- What is known of a value that was read: its gap, and that it was not refused.
@@ -327,15 +395,11 @@ module _ {p s : ℕ} {bytes vs : List ℕ} {at last plain : ℕ} (g : Going p s 
         → sums_of p s (length bytes) bytes 0 ≡ joined vs (and_then r (sums_from p s one_more.0))
     stepped_to r e = one_more.2 ∙ ap (λ (x : Read ℕ). joined vs (and_then x (sums_from p s one_more.0))) (sym e)
 
-    going_refused : {n : ℕ} → NextValuePost p s bytes at last (StepRefused n) → decode_of p s bytes ≡ refused n
+    pub going_stopped : {e : DecodeError} → NextValuePost p s bytes at last (Err e) → decode_of p s bytes ≡ refused (decode_refusal e)
     unfolding decode_of
-    going_refused {n} a = ap (λ (x : Read (List ℕ)). and_then x (asked p s)) (stepped_to (refused n) a.answer)
+    going_stopped {e} a = ap (λ (x : Read (List ℕ)). and_then x (asked p s)) (stepped_to (refused (decode_refusal e)) a.answer)
 
-    pub going_stopped : (r : Step) (n : ℕ) → NoStep r → NextValuePost p s bytes at last r → n ≡ step_refusal r → decode_of p s bytes ≡ refused n
-    going_stopped (Next v next) n j a e = absurd (let z : ⊥ = omega arith in z)
-    going_stopped (StepRefused m) n j a e = going_refused a ∙ ap (λ (i : ℕ). refused i) (sym e)
-
-    pub going_next : {v next q : ℕ} → NextValuePost p s bytes at last (Next v next) → q ≡ later_plain p s plain v → Going p s bytes (vs ++ (v ∷ [])) next v q
+    pub going_next : {v next q : ℕ} → NextValuePost p s bytes at last (Ok (v, next)) → q ≡ later_plain p s plain v → Going p s bytes (vs ++ (v ∷ [])) next v q
     going_next {v} {next} a e =
         record {
           bound = one_more.0;
@@ -368,13 +432,13 @@ going_stored {p} {s} {bytes} {at} {last} {plain} out k v h g =
     subst (λ (l : List ℕ). Going p s bytes l at last plain)
     (sym (ap (λ (n : ℕ). take n (set out k v)) (add-one k) ∙ take-suc-set out k v h)) g
 
-pub stored_stopped : {r : Read (List ℕ)} {n : ℕ} (out : List ℕ) → r ≡ refused n → Decodes r (Refused n) out
-stored_stopped {n = n} out e = subst (λ (x : Read (List ℕ)). Decodes x (Refused n) out) (sym e) refl
+pub stored_stopped : {r : Read (List ℕ)} (e : DecodeError) (out : List ℕ) → r ≡ refused (decode_refusal e) → Decodes r (Err e) out
+stored_stopped e out f = subst (λ (x : Read (List ℕ)). Decodes x (Err e) out) (sym f) refl
 
-pub stored_end : {r : Read (List ℕ)} (out : List ℕ) (k : ℕ) → k ≤ length out → r ≡ got (take k out) [] → Decodes r (Done k) out
+pub stored_end : {r : Read (List ℕ)} (out : List ℕ) (k : ℕ) → k ≤ length out → r ≡ got (take k out) [] → Decodes r (Ok k) out
 stored_end out k h e =
-    subst (λ (x : Read (List ℕ)). Decodes x (Done k) out) (sym e)
-    (ap Done (sym (length-take-le k out h)), ap (λ (n : ℕ). take n out) (length-take-le k out h))
+    subst (λ (x : Read (List ℕ)). Decodes x (Ok k) out) (sym e)
+    (sym (length-take-le k out h), refl)
 
 -- ---- what an accepted list is
 
@@ -517,11 +581,11 @@ module _ {p s : ℕ} {bytes vs : List ℕ} {at last plain : ℕ} {all rest : Lis
   pub going_whole : length bytes ≤ at → all ≡ vs
   going_whole h = let f : got all rest ≡ got vs [] = sym (accepted p s bytes e).sums ∙ all_read g h in cc
 
-  pub going_unstopped : at < length bytes → (r : Step) → NoStep r → NextValuePost p s bytes at last r → ⊥
-  going_unstopped h r j a = let f = going_stopped g h r (step_refusal r) j a refl in absurd (let z : ◌≡◌ {A = ℕ} 0 1 = cc in omega arith)
+  pub going_unstopped : at < length bytes → (x : DecodeError) → NextValuePost p s bytes at last (Err x) → ⊥
+  going_unstopped h x a = let f = going_stopped g h a in absurd (let z : ◌≡◌ {A = ℕ} 0 1 = cc in omega arith)
 
 pub going_value : {p s : ℕ} {bytes vs : List ℕ} {at last plain : ℕ} {all rest : List ℕ} {v next : ℕ} → decode_of p s bytes ≡ got all rest
-    → Going p s bytes vs at last plain → at < length bytes → NextValuePost p s bytes at last (Next v next) → valid p s v ≡ true
+    → Going p s bytes vs at last plain → at < length bytes → NextValuePost p s bytes at last (Ok (v, next)) → valid p s v ≡ true
 going_value {p} {s} {vs = vs} {v = v} e g h a =
     (both_true (all_valid p s vs) (valid p s v) (sym (all_more p s vs v) ∙ going_valid e (going_next g h a refl))).1
 

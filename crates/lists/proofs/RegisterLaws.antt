@@ -1,16 +1,19 @@
 -- Registers in memory: how they lie, and the loops over them.
-use Rattle.std.proofs.Common.{◌≡◌, ℕ, suc, ◌+◌, ◌-◌, ◌*◌, ◌/◌, ◌%◌, ◌^◌, ◌<◌, ◌≤◌, max, Bool, cond, eqb, ◌⊎◌, List, [], ◌∷◌, ◌++◌, length, get_or, take, drop, set, replicate, sym, refl, ap, ◌∙◌, subst, ap₂, inl, inr, ⊎_elim, append_assoc, append-nil, zero-le, le_trans, le_of_eq, mul-le-mul_right, mod-lt, suc-mul, eq-zero-or-pos, le_antisymm, pos_of_ne-zero, pow-suc, add-sub_cancel, add-one, arith, length-append, length-drop, length-set, take-append-drop, drop_of_length-le, length-take-le, get_or-drop, take_all, drop-cons, get_or-take, take-suc, take_at, get_or-append-add, drop_at, pow_pos, pow_mono, pow-add, shl_exact, shr_lt, le-ltb, lt-ltb, eq-eqb, ne_eqb}
+use Rattle.std.proofs.Common.{◌≡◌, ℕ, suc, ◌+◌, ◌-◌, ◌*◌, ◌/◌, ◌%◌, ◌^◌, ◌<◌, ◌≤◌, max, Bool, true, cond, not, eqb, ◌⊎◌, List, [], ◌∷◌, ◌++◌, length, get_or, take, drop, set, replicate, sym, refl, ap, ◌∙◌, subst, ap₂, inl, inr, ⊎_elim, append_assoc, append-nil, zero-le, le_trans, le_of_eq, mul-le-mul_right, mod-lt, suc-mul, eq-zero-or-pos, le_antisymm, pos_of_ne-zero, pow-suc, add-sub_cancel, add-one, arith, length-append, length-drop, length-set, take-append-drop, drop_of_length-le, length-take-le, get_or-drop, take_all, drop-cons, get_or-take, take-suc, take_at, get_or-append-add, drop_at, pow_pos, pow_mono, pow-add, shl_exact, shr_lt, le-ltb, lt-ltb, eq-eqb, ne_eqb}
 use native.Mathlib.Nat.{max-zero, mul-mod_left}
-use lib.ListN.{length-replicate, get_or-append}
+use borrow.Rule.Slice.PartMut.{put_mid, Post-is}
+use Rattle.std.specs.Int.{from_bool}
+use lib.ListN.{get_or-append}
 use lib.Seq.{set_at, set-append_left}
-use lib.Arith.{lt_of_le-ne}
 use lib.Pow.{shl-shr, shr_le, split, high, low}
 use lib.Count.{count_leading_zeros, leading_length, leading_unique}
 use Rattle.wire.proofs.VarintLaws.{side}
 use Rattle.lists.proofs.ValueLaws.{wider, lowered_zero, lowered_bits, lowered_bits_le, lowered_register_lem, lowered_register_le, register_zero}
-use Rattle.lists.proofs.RankLaws.{zeros_at, max_assoc, larger_length, larger_at, largest_upper, lowered_length, lowered_at_lem, lowered_upper, lowered_least, lowered_agree, raised_with, lower_index, lower_rank}
-use Rattle.lists.specs.Values.{register, rank, IndexPost, RankPost, lowered_rank, lowered_register}
-use Rattle.lists.specs.Registers.{register_bytes, registers_of, with_registers, zeros, raise, larger, lowered_at, lowered, not_zero_count, largest, cleared_from, lowered_in_place, offset_rank, HoldsFirst, ReadPost, StorePost, RaisePost, BothHold, ScanPre, ScanPost, LowerPre, BlockPre, BlockPost, DowngradePre}
+use Rattle.lists.proofs.RankLaws.{max_assoc, larger_length, larger_at, largest_upper, lowered_length, lowered_at_lem, lowered_upper, lowered_least, lowered_agree, raised_with, lower_index, lower_rank, lower_none}
+use Rattle.lists.specs.declared.values.Sparse.{Sparse}
+use Rattle.lists.specs.Lists.{all_valid}
+use Rattle.lists.specs.Values.{IndexPost, RankPost, lowered_rank, lowered_register}
+use Rattle.lists.specs.Registers.{register_bytes, registers_of, with_registers, zeros, raise, larger, lowered_at, lowered, not_zero_count, largest, raised_by, raised_lower, lowered_in_place, offset_rank, HoldsFirst, ReadPost, StorePost, RaisePost, BothHold, ScanPre, ScanPost, LowerPre, BlockPre, BlockPost, DowngradePre, SetListPre}
 
 -- ---- how registers lie: these alone know that a register is a byte
 
@@ -108,14 +111,10 @@ raise_post bytes i r m e =
     }
 
 -- How many registers there are.
-pub count_is : (p : ℕ) → p ≤ 24 → ((1 * 2 ^ p) % 2 ^ 64 ≡ 2 ^ p) × ((1 * 2 ^ p) % 2 ^ 64 ≤ 16777216)
-count_is p h =
-    let e : (1 * 2 ^ p) % 2 ^ 64 ≡ 1 * 2 ^ p = shl_exact {a = 1} 1 p 64 (omega arith) (omega arith) in
+pub count_is : (w p : ℕ) → p ≤ 24 → 24 < w → ((1 * 2 ^ p) % 2 ^ w ≡ 2 ^ p) × ((1 * 2 ^ p) % 2 ^ w ≤ 16777216)
+count_is w p h g =
+    let e : (1 * 2 ^ p) % 2 ^ w ≡ 1 * 2 ^ p = shl_exact {a = 1} 1 p w (omega arith) (omega arith) in
     let l : 2 ^ p ≤ 2 ^ 24 = pow_mono h in (omega arith, omega arith)
-
--- A loop that ends where i is the count has not come to it.
-pub not_yet : (i n m : ℕ) → n ≡ m → i ≤ m → (i ≡ n → ⊥) → i < m
-not_yet i n m e h f = lt_of_le-ne h (λ (g : i ≡ m). f (g ∙ sym e))
 
 -- ---- a loop that puts one register of a row after the other in the place of those before
 
@@ -158,9 +157,6 @@ module _ (p : ℕ) (row before after : List ℕ) (i : ℕ) (d : Done p row befor
   pub done_registers : registers_of p after ≡ take i row ++ drop i (registers_of p before)
   done_registers =
       ap (registers_of p) d.so_far ∙ of_with p before d.room (take i row ++ drop i (registers_of p before)) mixed_length
-
-  pub done_length : length after ≡ length before
-  done_length = ap length d.so_far ∙ with_length p before d.room (take i row ++ drop i (registers_of p before)) mixed_length
 
   pub done_room : register_bytes p ≤ length after
   done_room = with_room p before d.room (take i row ++ drop i (registers_of p before)) mixed_length after d.so_far
@@ -239,50 +235,19 @@ module _ (p : ℕ) (target source : List ℕ) (both : BothHold p target source) 
       (larger_at (registers_of p target) (registers_of p source) (of_length p target both.into.room ∙ sym (of_length p source both.from.room)) i
       ∙ ap (λ (x : ℕ). max (get_or (registers_of p target) i 0) x) (sym (read.value p both.from.room h))) raised
 
--- ---- another row in their place
-
-module _ (p : ℕ) (target source : List ℕ) (both : BothHold p target source) where
-  pub load_start : Done p (registers_of p source) target target 0
-  load_start = done_none p (registers_of p source) target (of_length p source both.from.room) both.into.room 0 zero-le refl
-
-  pub load_turn : (after next : List ℕ) (i r : ℕ) → i < 2 ^ p → Done p (registers_of p source) target after i → ReadPost source i r → StorePost after i r next
-      → Done p (registers_of p source) target next (i + 1)
-  load_turn after next i r h d read stored = done_store p (registers_of p source) target after i d h r next (read.value p both.from.room h) stored
-
 pub first_held : (p i : ℕ) (bytes : List ℕ) → register_bytes p ≤ length bytes → i < 2 ^ p → HoldsFirst (i + 1) bytes
 first_held p i bytes room h = record { precision = p; room = room; within = omega arith }
 
--- ---- zeros
+-- ---- all registers at once
 
-module _ (p from : ℕ) (bytes : List ℕ) (room : register_bytes p ≤ length bytes) (within : from ≤ 2 ^ p) where
-  from_length : length (take from (registers_of p bytes)) ≡ from
-  from_length = length-take-le from (registers_of p bytes) (subst (λ (n : ℕ). from ≤ n) (sym (of_length p bytes room)) within)
+-- Zeros, or another row, in the place of the bytes of the registers.
+pub cleared : (p n : ℕ) (bytes front : List ℕ) → n ≡ register_bytes p → front ≡ replicate n 0 → front ++ drop n bytes ≡ with_registers p (zeros p) bytes
+unfolding register_bytes with_registers
+cleared p n bytes front e f = ap₂ (λ (l : List ℕ) (k : ℕ). l ++ drop k bytes) (f ∙ ap (λ (k : ℕ). replicate k 0) e) e
 
-  pub clear_start : Done p (cleared_from p from (registers_of p bytes)) bytes bytes from
-  unfolding cleared_from
-  clear_start =
-      done_none p (take from (registers_of p bytes) ++ replicate (2 ^ p - from) 0) bytes
-      (omega (
-        arith,
-        length-append (take from (registers_of p bytes)) (replicate (2 ^ p - from) 0),
-        from_length,
-        length-replicate {A = ℕ} (2 ^ p - from) 0,
-        within,
-      )) room from within
-      (take_at (take from (registers_of p bytes)) (replicate (2 ^ p - from) 0) from from_length)
-
-  pub cleared_at : (i : ℕ) → from ≤ i → i < 2 ^ p → 0 ≡ get_or (cleared_from p from (registers_of p bytes)) i 0
-  unfolding cleared_from
-  cleared_at i l h =
-      let e : from + (i - from) ≡ i = omega arith in
-      sym
-      (ap (λ (n : ℕ). get_or (take from (registers_of p bytes) ++ replicate (2 ^ p - from) 0) n 0) (sym (ap (λ (n : ℕ). n + (i - from)) from_length ∙ e))
-      ∙ get_or-append-add (take from (registers_of p bytes)) (replicate (2 ^ p - from) 0) (i - from) 0
-      ∙ zeros_at (2 ^ p - from) (i - from))
-
-pub cleared_all : (p : ℕ) (regs : List ℕ) → cleared_from p 0 regs ≡ zeros p
-unfolding cleared_from
-cleared_all p regs = ap (λ (n : ℕ). replicate n 0) (let e : 2 ^ p - 0 ≡ 2 ^ p = omega arith in e)
+pub loaded : (p n : ℕ) (bytes source front : List ℕ) → n ≡ register_bytes p → front ≡ take n source → front ++ drop n bytes ≡ with_registers p (registers_of p source) bytes
+unfolding register_bytes with_registers registers_of
+loaded p n bytes source front e f = ap₂ (λ (l : List ℕ) (k : ℕ). l ++ drop k bytes) (f ∙ ap (λ (k : ℕ). take k source) e) e
 
 -- ---- counting and the largest
 
@@ -293,26 +258,32 @@ pub record CountingNotZero (regs : List ℕ) (count i : ℕ) : Type 0 where
 pub count_none : (regs : List ℕ) → CountingNotZero regs 0 0
 count_none regs = record { few = zero-le; sum = let e : 0 + not_zero_count regs ≡ not_zero_count regs = omega arith in e }
 
-pub count_turn : (regs : List ℕ) (count i x r : ℕ) → i < length regs → r ≡ get_or regs i 0 → x ≡ cond (eqb r 0) 0 1 → x ≤ 1 → CountingNotZero regs count i
+pub count_turn : (regs : List ℕ) (count i x r : ℕ) → i < length regs → r ≡ get_or regs i 0 → x ≡ from_bool (not (eqb r 0)) → CountingNotZero regs count i
     → CountingNotZero regs (count + x) (i + 1)
 unfolding not_zero_count
-count_turn regs count i x r h e f l w =
+count_turn regs count i x r h e f w =
     record {
-      few = omega (arith, w.few);
+      few = ⊎_elim (λ (z : r ≡ 0). omega (arith, w.few, none z)) (λ (z : 0 < r). omega (arith, w.few, one z)) (eq-zero-or-pos r);
       sum = ap (λ (n : ℕ). count + x + not_zero_count (drop n regs)) (add-one i) ∙ by_test (eq-zero-or-pos r);
     }
   where
     whole : count + not_zero_count (get_or regs i 0 ∷ drop (suc i) regs) ≡ not_zero_count regs
     whole = ap (λ (l : List ℕ). count + not_zero_count l) (sym (drop-cons regs i 0 h)) ∙ w.sum
 
+    none : r ≡ 0 → x ≡ 0
+    none z = f ∙ ap (λ (t : Bool). from_bool (not t)) (eq-eqb r 0 z)
+
+    one : 0 < r → x ≡ 1
+    one z = f ∙ ap (λ (t : Bool). from_bool (not t)) (ne_eqb r 0 (λ (y : r ≡ 0). omega arith))
+
     by_test : (r ≡ 0) ⊎ (0 < r) → count + x + not_zero_count (drop (suc i) regs) ≡ not_zero_count regs
     by_test (inl z) =
-        let a : x ≡ 0 = f ∙ ap (λ (t : Bool). cond t 0 1) (eq-eqb r 0 z) in
+        let a = none z in
         let b : not_zero_count (get_or regs i 0 ∷ drop (suc i) regs) ≡ not_zero_count (drop (suc i) regs) = rw (eq-eqb (get_or regs i 0) 0 (sym e ∙ z)) refl in
         omega (arith, whole, a, b)
     by_test (inr z) =
         let n : r ≡ 0 → ⊥ = λ (y : r ≡ 0). omega arith in
-        let a : x ≡ 1 = f ∙ ap (λ (t : Bool). cond t 0 1) (ne_eqb r 0 n) in
+        let a = one z in
         let b : not_zero_count (get_or regs i 0 ∷ drop (suc i) regs) ≡ 1 + not_zero_count (drop (suc i) regs) = rw (ne_eqb (get_or regs i 0) 0 (λ (y : get_or regs i 0 ≡ 0). n (e ∙ y))) refl in
         omega (arith, whole, a, b)
 
@@ -340,46 +311,6 @@ pub record Scanned (bytes : List ℕ) (from to i : ℕ) : Type 0 where
   pub low : from ≤ i
   pub high : i ≤ to
   pub none : (p x : ℕ) → register_bytes p ≤ length bytes → to ≤ 2 ^ p → from ≤ x → x < i → get_or (registers_of p bytes) x 0 ≡ 0
-
-pub scan_none : (bytes : List ℕ) (from to : ℕ) → from ≤ to → Scanned bytes from to from
-scan_none bytes from to h =
-    record {
-      low = le_of_eq refl;
-      high = h;
-      none = λ (p x : ℕ) (room : register_bytes p ≤ length bytes) (w : to ≤ 2 ^ p) (a : from ≤ x) (b : x < from). absurd (let z : ⊥ = omega arith in z);
-    }
-
-pub scan_turn : (bytes : List ℕ) (from to i r : ℕ) → i < to → ReadPost bytes i r → r ≡ 0 → Scanned bytes from to i → Scanned bytes from to (i + 1)
-scan_turn bytes from to i r h read z s =
-    record {
-      low = omega (arith, s.low);
-      high = omega arith;
-      none = λ (p x : ℕ) (room : register_bytes p ≤ length bytes) (w : to ≤ 2 ^ p) (a : from ≤ x) (b : x < i + 1).
-          ⊎_elim (λ (c : x < i). s.none p x room w a c)
-          (λ (c : i ≤ x).
-          let e : x ≡ i = omega arith in
-          ap (λ (n : ℕ). get_or (registers_of p bytes) n 0) e ∙ sym (read.value p room (let g : i < 2 ^ p = omega arith in g)) ∙ z) (side x i);
-    }
-
-pub scan_found : (bytes : List ℕ) (from to i r : ℕ) → i < to → ReadPost bytes i r → (r ≡ 0 → ⊥) → Scanned bytes from to i → ScanPost bytes from to i
-scan_found bytes from to i r h read z s =
-    record {
-      low = s.low;
-      high = s.high;
-      none = s.none;
-      found = λ (p : ℕ) (room : register_bytes p ≤ length bytes) (w : to ≤ 2 ^ p) (l : i < to).
-          subst (λ (n : ℕ). 0 < n) (read.value p room (let g : i < 2 ^ p = omega arith in g))
-          (pos_of_ne-zero z);
-    }
-
-pub scan_end : (bytes : List ℕ) (from to i : ℕ) → to ≤ i → Scanned bytes from to i → ScanPost bytes from to i
-scan_end bytes from to i h s =
-    record {
-      low = s.low;
-      high = s.high;
-      none = s.none;
-      found = λ (p : ℕ) (room : register_bytes p ≤ length bytes) (w : to ≤ 2 ^ p) (l : i < to). absurd (let z : ⊥ = omega arith in z);
-    }
 
 -- ---- one register of those lowered
 
@@ -514,9 +445,6 @@ module _ (bytes : List ℕ) (d t block : ℕ) (pre : BlockPre d t bytes) (size :
   code_within : t * block + block ≤ 2 ^ pre.precision
   code_within = subst (λ (b : ℕ). t * b + b ≤ 2 ^ pre.precision) (sym size) (block_within pre.precision d t pre.fewer pre.below)
 
-  pub code_fits : t * block + block ≤ 16777216
-  code_fits = let m : 2 ^ pre.precision ≤ 2 ^ 24 = pow_mono pre.holds.high in omega (arith, code_within, m)
-
   code_first : t * block + 1 ≤ 2 ^ pre.precision
   code_first = omega (arith, code_within, size, pow_pos d)
 
@@ -650,24 +578,23 @@ module _ (p d : ℕ) (before : List ℕ) (pre : LowerPre p d before) where
       (take_at (lowered d (p - d) (registers_of p before)) (drop (2 ^ (p - d)) (registers_of p before)) (2 ^ (p - d))
       (lowered_length d (p - d) (registers_of p before)))
 
-  -- Lowered, and the rest made zero.
-  pub lower_whole : (after last : List ℕ)
+  -- Lowered, and the bytes that are freed made zero.
+  pub lower_whole : (after freed : List ℕ) (m n : ℕ) → m ≡ register_bytes (p - d) → n ≡ register_bytes p
       → after ≡ with_registers p (lowered d (p - d) (registers_of p before) ++ drop (2 ^ (p - d)) (registers_of p before)) before
-      → last ≡ with_registers p (cleared_from p (2 ^ (p - d)) (registers_of p after)) after
-      → last ≡ with_registers p (lowered_in_place p (p - d) (registers_of p before)) before
-  unfolding cleared_from
-  lower_whole after last e f =
+      → freed ≡ replicate (n - m) 0 → put_mid m (n - m) after freed ≡ with_registers p (lowered_in_place p (p - d) (registers_of p before)) before
+  unfolding register_bytes with_registers registers_of
+  lower_whole after freed m n a b e f =
       let q = p - d in
       let row = lowered d q (registers_of p before) in
       let rest = drop (2 ^ q) (registers_of p before) in
-      let freed : List ℕ = replicate (2 ^ p - 2 ^ q) 0 in
-      let size = lower_start.size in
-      f
-      ∙ ap (λ (l : List ℕ). with_registers p (take (2 ^ q) l ++ freed) after) (ap (registers_of p) e ∙ of_with p before pre.holds.room (row ++ rest) size)
-      ∙ ap (λ (l : List ℕ). with_registers p (l ++ freed) after) (take_at row rest (2 ^ q) (lowered_length d q (registers_of p before)))
-      ∙ ap (with_registers p (row ++ freed)) e
-      ∙ with_with p before pre.holds.room (row ++ rest) size (row ++ freed)
-      ∙ ap (λ (b : ℕ). with_registers p (lowered b q (registers_of p before) ++ freed) before) (let g : d ≡ p - (p - d) = omega (arith, pre.fewer) in g)
+      let past = drop (2 ^ p) before in
+      let small : m ≤ n = omega (arith, a, b, fewer_le) in
+      let front : take m after ≡ row = ap₂ (λ (k : ℕ) (l : List ℕ). take k l) a e ∙ of_front q p row rest before (lowered_length d q (registers_of p before)) in
+      let back : drop n after ≡ past = ap₂ (λ (k : ℕ) (l : List ℕ). drop k l) b e ∙ drop_at (row ++ rest) past (2 ^ p) lower_start.size in
+      ap₂ (λ (l r : List ℕ). l ++ (freed ++ r)) front (Post-is m n after small ∙ back)
+      ∙ sym (append_assoc row freed past)
+      ∙ ap (λ (l : List ℕ). (row ++ l) ++ past) (f ∙ ap₂ (λ (k j : ℕ). replicate (k - j) 0) b a)
+      ∙ ap (λ (k : ℕ). (lowered k q (registers_of p before) ++ replicate (2 ^ p - 2 ^ q) 0) ++ past) (let g : d ≡ p - (p - d) = omega (arith, pre.fewer) in g)
 
 -- ---- setting the values of a list
 
@@ -717,21 +644,34 @@ module _ (q : ℕ) (ix rk : ℕ → ℕ) (list before after : List ℕ) (i : ℕ
       ∙ ap (λ (l : List ℕ). with_registers q l before)
       (sym (w.whole ∙ ap (raised_with ix rk (registers_of q after)) (drop_of_length-le list h)))
 
--- One value.
-pub set_one : (p s v i r : ℕ) (before after : List ℕ) → register_bytes p ≤ length before → IndexPost p s v i → RankPost p s v r → RaisePost before i r after
-    → after ≡ with_registers p (raise (registers_of p before) (register p s v) (rank p s v)) before
-set_one p s v i r before after room index ranks raised =
-    raised.raised p room index.small
-    ∙ ap₂ (λ (x y : ℕ). with_registers p (raise (registers_of p before) x y) before) index.index ranks.value
-
 -- A register of p bits is one of p - d once lowered.
 pub lower_index_lem : (p d i : ℕ) → d ≤ p → i < 2 ^ p → i / 2 ^ d < 2 ^ (p - d)
 lower_index_lem p d i h l = shr_lt (p - d) d (subst (λ (n : ℕ). i < 2 ^ n) (let e : p ≡ p - d + d = omega arith in e) l)
 
-pub set_one_lower : (p s d v i r x : ℕ) (before after : List ℕ) → d ≤ p → register_bytes (p - d) ≤ length before → IndexPost p s v i → RankPost p s v r
+-- One value.
+pub set_one : (p s d v i r x : ℕ) (before after : List ℕ) → d ≤ p → register_bytes (p - d) ≤ length before → IndexPost p s v i → RankPost p s v r
     → x ≡ lowered_rank d i r → RaisePost before (i / 2 ^ d) x after
     → after ≡ with_registers (p - d) (raise (registers_of (p - d) before) (lower_index p s d v) (lower_rank p s d v)) before
-set_one_lower p s d v i r x before after h room index ranks e raised =
+set_one p s d v i r x before after h room index ranks e raised =
     raised.raised (p - d) room (lower_index_lem p d i h index.small)
     ∙ ap₂ (λ (a b : ℕ). with_registers (p - d) (raise (registers_of (p - d) before) a b) before) (ap (λ (n : ℕ). n / 2 ^ d) index.index)
     (e ∙ ap₂ (lowered_rank d) index.index ranks.value)
+
+-- With no bits to go a list raises the registers of its own precision.
+pub set_none : (enc : Sparse) (list bytes : List ℕ) → all_valid enc.normal_precision enc.sparse_precision list ≡ true
+    → register_bytes enc.normal_precision ≤ length bytes → SetListPre enc 0 list bytes
+set_none enc list bytes ok room =
+    let e : enc.normal_precision ≡ enc.normal_precision - 0 = omega arith in
+    record { ok = ok; few = zero-le; fewer = zero-le; room = subst (λ (n : ℕ). register_bytes n ≤ length bytes) e room }
+
+pub set_none_room : (enc : Sparse) (list bytes : List ℕ) → SetListPre enc 0 list bytes → register_bytes enc.normal_precision ≤ length bytes
+set_none_room enc list bytes pre =
+    let e : enc.normal_precision - 0 ≡ enc.normal_precision = omega arith in
+    subst (λ (n : ℕ). register_bytes n ≤ length bytes) e pre.room
+
+pub set_own : (p s : ℕ) (l before after : List ℕ) → after ≡ with_registers (p - 0) (raised_lower p s 0 (registers_of (p - 0) before) l) before
+    → after ≡ with_registers p (raised_by p s (registers_of p before) l) before
+set_own p s l before after e =
+    e
+    ∙ ap (λ (n : ℕ). with_registers n (raised_lower p s 0 (registers_of n before) l) before) (let f : p - 0 ≡ p = omega arith in f)
+    ∙ ap (λ (x : List ℕ). with_registers p x before) (lower_none p s (registers_of p before) l)

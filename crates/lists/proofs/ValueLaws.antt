@@ -1,6 +1,6 @@
 -- Laws of the values of a sparse list: the mark, validity, index, register and rank, and lowering. Of the other law files only MergeLaws unfolds one of
 -- their definitions, the mark, for the groups of 64 values that it makes.
-use Rattle.std.proofs.Common.{◌≡◌, ℕ, zero, suc, ◌+◌, ◌-◌, ◌*◌, ◌/◌, ◌%◌, ◌^◌, ◌<◌, ◌≤◌, Bool, true, false, not, ◌&&◌, eqb, ltb, leb, ◌⊎◌, sym, refl, ap, ◌∙◌, subst, inl, inr, ⊎_elim, true≢false, zero-le, le_refl, mul-le-mul_right, mod-lt, mod-eq_of_lt, zero-lt-suc, add_comm, arith, pow_pos, pow_mono, pow-add, shl_lt, shr_lt, ltb-true, le-ltb, lt-ltb, eq-eqb, ne_eqb, eqb-true, le-leb, leb-true}
+use Rattle.std.proofs.Common.{◌≡◌, ℕ, zero, suc, ◌+◌, ◌-◌, ◌*◌, ◌/◌, ◌%◌, ◌^◌, ◌<◌, ◌≤◌, Bool, true, false, cond, not, ◌&&◌, eqb, ltb, leb, ◌⊎◌, sym, refl, ap, ◌∙◌, subst, inl, inr, ⊎_elim, true≢false, zero-le, le_refl, mul-le-mul_right, mod-lt, mod-eq_of_lt, zero-lt-suc, add_comm, arith, pow_pos, pow_mono, pow-add, shl_lt, shr_lt, ltb-true, le-ltb, lt-ltb, eq-eqb, ne_eqb, eqb-true, le-leb, leb-true}
 use mathlib.Core.Bool.{and-true}
 use native.Mathlib.Nat.{div-eq_of_lt, le-max_left, le-max_right, max-le}
 use lib.Arith.{digits_lt, digits_div}
@@ -10,7 +10,8 @@ use lib.Count.{count_leading_zeros, leading_le, leading_top, leading_length, lea
 use borrow.Author.Tests.{eqb-false, lt-leb}
 use Rattle.wire.proofs.BoolLaws.{both_true, whichever}
 use Rattle.wire.proofs.VarintLaws.{side}
-use Rattle.lists.specs.Values.{mark_bit, mark, marked, plain_end, marked_end, least_marked_rank, marked_rank_fits, valid, sparse_index, register, plain_rank, rank, largest_rank, lowered_rank, lowered_register, Pair, NewPost, IndexPost, RankPost}
+use mir.Val.{bool_byte}
+use Rattle.lists.specs.Values.{mark_bit, mark, marked, plain_end, marked_end, least_marked_rank, marked_rank_fits, valid, sparse_index, register, plain_rank, rank, largest_rank, lowered_rank, lowered_register, Pair, IndexPost, RankPost}
 
 -- ---- tests
 
@@ -408,14 +409,22 @@ lowered_register_le d index (suc r) = omega (arith, lowered_register_lem d index
 -- ---- what the code computes
 
 -- `bit` is the larger of the two precisions that the mark stands above.
-pub new_post : (p s bit : ℕ) → Pair p s → bit ≡ mark_bit p s
-    → NewPost p s (record { normal_precision = p; sparse_precision = s; rho_encoded_flag = (1 * 2 ^ bit) % 2 ^ 32 })
-new_post p s bit pair e =
-    record {
-      fits = record { pair = pair; flag = ap (λ (k : ℕ). (1 * 2 ^ k) % 2 ^ 32) e ∙ mark_shl p s pair };
-      normal = refl;
-      sparse = refl;
-    }
+pub code_mark : (p s bit : ℕ) → Pair p s → bit ≡ mark_bit p s → (1 * 2 ^ bit) % 2 ^ 32 ≡ mark p s
+code_mark p s bit pair e = ap (λ (k : ℕ). (1 * 2 ^ k) % 2 ^ 32) e ∙ mark_shl p s pair
+
+-- A truth as a number, as the definitions have it.
+pub truth : (t : Bool) → bool_byte t ≡ cond t 1 0
+truth true = refl
+truth false = refl
+
+pub truth_le : (t : Bool) → bool_byte t ≤ 1
+truth_le true = le_refl 1
+truth_le false = zero-le
+
+pub truth_turned : (x y : ℕ) → bool_byte (leb x y) ≡ cond (ltb y x) 0 1
+truth_turned x y =
+    ⊎_elim (λ (h : y < x). ap bool_byte (lt-leb x y h) ∙ sym (ap (λ (t : Bool). cond t 0 1) (lt-ltb y x h)))
+    (λ (h : x ≤ y). ap bool_byte (le-leb x y h) ∙ sym (ap (λ (t : Bool). cond t 0 1) (le-ltb y x h))) (side y x)
 
 -- The least low six bits, and the end of the plain values by it.
 module _ (p s : ℕ) where
@@ -504,9 +513,9 @@ module _ {p s : ℕ} (v r : ℕ) (pair : Pair p s) (t : valid p s v ≡ true) wh
   pub rank_plain_post : marked p s v ≡ false → r ≡ plain_rank (s - p) v → RankPost p s v r
   rank_plain_post e h = rank_post (h ∙ sym (rank_plain p s v e))
 
-  pub rank_marked_post : marked p s v ≡ true → r ≡ v % 64 + s - p → RankPost p s v r
+  pub rank_marked_post : marked p s v ≡ true → r ≡ v % 64 + (s - p) → RankPost p s v r
   rank_marked_post e h =
-      rank_post (h ∙ (let g : v % 64 + s - p ≡ v % 64 + (s - p) = omega (arith, pair.above) in g) ∙ sym (rank_marked p s v e))
+      rank_post (h ∙ sym (rank_marked p s v e))
 
 -- The code's leading zeros of the low k bits.
 abbrev pub zeros32 : ℕ → ℕ → ℕ

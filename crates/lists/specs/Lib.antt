@@ -1,5 +1,6 @@
 -- The definitions of values, lists and registers, and the examples that they are held to.
 pub mod Values
+pub mod Pairs
 pub mod Sorting
 pub mod Order
 pub mod Digits

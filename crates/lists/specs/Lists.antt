@@ -1,17 +1,13 @@
 -- Sparse lists: reading, writing, merging (document 01, module 4; Heule, Nunkesser and Hall 2013, section 5.3.2, "difference encoding" and
 -- "variable length encoding").
-use Rattle.std.specs.Prelude.{◌≡◌, ℕ, zero, suc, ◌+◌, ◌-◌, ◌*◌, ◌/◌, ◌%◌, ◌^◌, ◌<◌, ◌≤◌, Bool, true, false, cond, not, ◌&&◌, ◌||◌, List, [], ◌∷◌, ◌++◌, length, take, drop, ◌==◌, nat_lt}
+use Rattle.std.specs.Prelude.{◌≡◌, ℕ, zero, suc, ◌+◌, ◌-◌, ◌*◌, ◌/◌, ◌%◌, ◌^◌, ◌<◌, ◌≤◌, Bool, true, false, cond, not, ◌&&◌, ◌||◌, List, [], ◌∷◌, ◌++◌, length, take, drop, get_or, ◌==◌, nat_lt, Result, Ok, Err, IsOkAnd, IsErrAnd}
 use Rattle.wire.specs.Reading.{Read, got, refused, and_then}
 use Rattle.wire.specs.Varints.{varint_of, varint_bytes}
-use Rattle.lists.specs.declared.decoding.Gap.{Gap}
-use Rattle.lists.specs.declared.decoding.Gap.TheVariants.{Value, Cut, Long}
-use Rattle.lists.specs.declared.decoding.Step.{Step}
-use Rattle.lists.specs.declared.decoding.Step.TheVariants.{Next, Refused as StepRefused}
-use Rattle.lists.specs.declared.decoding.Decoded.{Decoded}
-use Rattle.lists.specs.declared.decoding.Decoded.TheVariants.{Done, Refused}
+use Rattle.lists.specs.declared.decoding.DecodeError.{DecodeError}
+use Rattle.lists.specs.declared.decoding.DecodeError.TheVariants.{TruncatedGap, GapTooLong, InvalidValue}
 use Rattle.lists.specs.declared.merging.Merged.{Merged}
 use Rattle.lists.specs.declared.values.Sparse.{Sparse}
-use Rattle.lists.specs.Values.{mark, marked, marked_end, marked_rank_fits, valid, sparse_index, SparseFits}
+use Rattle.lists.specs.Values.{mark, marked, marked_end, marked_rank_fits, valid, sparse_index}
 use Rattle.lists.specs.Sorting.{ascends, sort_of}
 
 -- ---- reading
@@ -24,28 +20,31 @@ gap_answer (refused n) = refused (cond (n == 3) 18 19)
 unfoldable pub gap_of : List ℕ → Read ℕ
 gap_of l = gap_answer (varint_of 5 l)
 
--- What an answer of `read_gap` says of the bytes that it read from.
-abbrev pub gap_means : List ℕ → Gap → Read ℕ
-gap_means s (Value v next) = got v (drop next s)
-gap_means s Cut = refused 18
-gap_means s Long = refused 19
+-- Document 01's number of a refusal.
+abbrev pub decode_refusal : DecodeError → ℕ
+decode_refusal TruncatedGap = 18
+decode_refusal GapTooLong = 19
+decode_refusal InvalidValue = 20
+
+-- What an answer with a number and the position after it says of the bytes that it was read from.
+abbrev pub read_means : List ℕ → Result (ℕ × ℕ) DecodeError → Read ℕ
+read_means bytes (Ok (v, next)) = got v (drop next bytes)
+read_means bytes (Err e) = refused (decode_refusal e)
 
 -- The next position is further on, and no further than the end.
-abbrev pub GapInside : List ℕ → ℕ → Gap → Type 0
-GapInside s at (Value v next) = (at < next) × (next ≤ length s)
-GapInside s at Cut = Unit
-GapInside s at Long = Unit
+abbrev pub ReadInside : List ℕ → ℕ → Result (ℕ × ℕ) DecodeError → Type 0
+ReadInside bytes at (Ok (v, next)) = (at < next) × (next ≤ length bytes)
+ReadInside bytes at (Err e) = Unit
+
+-- Reading a byte of a gap at a position: there is none past the end.
+abbrev pub BytePost : List ℕ → ℕ → Result ℕ DecodeError → Type 0
+BytePost bytes at (Ok b) = (at < length bytes) × (b ≡ get_or bytes at 0) × (b < 256)
+BytePost bytes at (Err e) = (length bytes ≤ at) × (e ≡ TruncatedGap)
 
 -- Reading a gap at a position: the answer is the definition's for the rest of the bytes.
-pub record GapPost (s : List ℕ) (at : ℕ) (r : Gap) : Type 0 where
-  pub answer : gap_means s r ≡ gap_of (drop at s)
-  pub inside : GapInside s at r
-
--- Document 01's number of a refusal.
-abbrev pub gap_refusal : Gap → ℕ
-gap_refusal (Value v next) = 0
-gap_refusal Cut = 18
-gap_refusal Long = 19
+pub record GapPost (bytes : List ℕ) (at : ℕ) (r : Result (ℕ × ℕ) DecodeError) : Type 0 where
+  pub answer : read_means bytes r ≡ gap_of (drop at bytes)
+  pub inside : ReadInside bytes at r
 
 -- What is refused with 20 where it is read: a sum below the last one, "the low six bits [more than] 65−s where the mark bit is set", and with s = p "a marked value
 -- with m = 0 …, the marked one where it is read" (document 02, U3). The mark bit alone decides here, whatever stands above it.
@@ -67,23 +66,10 @@ sums_of p s (suc n) [] last = got [] []
 sums_of p s (suc n) (b ∷ l) last =
     and_then (step_of p s (b ∷ l) last) (λ v rest. before v (sums_of p s n rest v))
 
--- What an answer of `next_value` says of the bytes that it read from.
-abbrev pub next_value_means : List ℕ → Step → Read ℕ
-next_value_means bytes (Next v next) = got v (drop next bytes)
-next_value_means bytes (StepRefused n) = refused n
-
-abbrev pub NextValueInside : List ℕ → ℕ → Step → Type 0
-NextValueInside bytes at (Next v next) = (at < next) × (next ≤ length bytes)
-NextValueInside bytes at (StepRefused n) = Unit
-
-abbrev pub step_refusal : Step → ℕ
-step_refusal (Next v next) = 0
-step_refusal (StepRefused n) = n
-
 -- One value after `last`, at a position.
-pub record NextValuePost (p s : ℕ) (bytes : List ℕ) (at last : ℕ) (r : Step) : Type 0 where
-  pub answer : next_value_means bytes r ≡ step_of p s (drop at bytes) last
-  pub inside : NextValueInside bytes at r
+pub record NextValuePost (p s : ℕ) (bytes : List ℕ) (at last : ℕ) (r : Result (ℕ × ℕ) DecodeError) : Type 0 where
+  pub answer : read_means bytes r ≡ step_of p s (drop at bytes) last
+  pub inside : ReadInside bytes at r
 
 unfoldable pub all_valid : ℕ → ℕ → List ℕ → Bool
 all_valid p s [] = true
@@ -107,17 +93,17 @@ abbrev pub ends_valid : ℕ → ℕ → ℕ → ℕ → Bool
 ends_valid p s plain last = valid p s plain && nat_lt last (marked_end p s)
 
 -- The count and the values in the first cells, or the refusal's number.
-abbrev pub Decodes : Read (List ℕ) → Decoded → List ℕ → Type 0
-Decodes (got vs l) r out = (r ≡ Done (length vs)) × (take (length vs) out ≡ vs)
-Decodes (refused n) r out = r ≡ Refused n
+abbrev pub Decodes : Read (List ℕ) → Result ℕ DecodeError → List ℕ → Type 0
+Decodes (got vs l) r out = IsOkAnd r (λ n. (n ≡ length vs) × (take n out ≡ vs))
+Decodes (refused n) r out = IsErrAnd r (λ e. decode_refusal e ≡ n)
 
 -- The cells past the values of a list are as they were. Where a list is refused every cell is free: they hold anything, as many as before.
-abbrev pub DecodeFree : Decoded → List ℕ → List ℕ → Type 0
-DecodeFree (Done n) before after = drop n after ≡ drop n before
-DecodeFree (Refused n) before after = length after ≡ length before
+abbrev pub DecodeFree : Result ℕ DecodeError → List ℕ → List ℕ → Type 0
+DecodeFree (Ok n) before after = drop n after ≡ drop n before
+DecodeFree (Err e) before after = length after ≡ length before
 
 -- What `decode_validated_into` answers and leaves.
-pub record DecodePost (p s : ℕ) (bytes before : List ℕ) (r : Decoded) (after : List ℕ) : Type 0 where
+pub record DecodePost (p s : ℕ) (bytes before : List ℕ) (r : Result ℕ DecodeError) (after : List ℕ) : Type 0 where
   pub answer : Decodes (decode_of p s bytes) r after
   pub free : DecodeFree r before after
 
@@ -198,7 +184,6 @@ pub record ChangePre (list : List ℕ) (len bytes : ℕ) : Type 0 where
   pub most : bytes + 10 < 2 ^ 64
 
 pub record InsertOnePre (enc : Sparse) (list : List ℕ) (len bytes : ℕ) : Type 0 where
-  pub fits : SparseFits enc
   pub room : len < length list
   pub rises : ascends (take len list) ≡ true
   pub distinct : distinct_slots enc.normal_precision enc.sparse_precision (take len list) ≡ true
@@ -206,7 +191,6 @@ pub record InsertOnePre (enc : Sparse) (list : List ℕ) (len bytes : ℕ) : Typ
 
 -- What `insert_dedupe` asks. Neither validity nor an order of the incoming values is needed.
 pub record InsertPre (enc : Sparse) (union : List ℕ) (len : ℕ) (incoming : List ℕ) (bytes : ℕ) : Type 0 where
-  pub fits : SparseFits enc
   pub room : len + length incoming ≤ length union
   pub rises : ascends (take len union) ≡ true
   pub distinct : distinct_slots enc.normal_precision enc.sparse_precision (take len union) ≡ true
@@ -235,7 +219,6 @@ distinct_indices p s (v ∷ l) = cond (index_in p s v l) (distinct_indices p s l
 
 -- What counting them in one walk asks.
 pub record IndexPre (enc : Sparse) (l : List ℕ) : Type 0 where
-  pub fits : SparseFits enc
   pub rises : ascends l ≡ true
   pub allowed : all_valid enc.normal_precision enc.sparse_precision l ≡ true
   pub distinct : distinct_slots enc.normal_precision enc.sparse_precision l ≡ true

@@ -2,7 +2,7 @@
 use Rattle.std.specs.Prelude.{◌≡◌, ℕ, zero, suc, ◌+◌, ◌-◌, ◌*◌, ◌/◌, ◌^◌, ◌<◌, ◌≤◌, max, true, cond, List, [], ◌∷◌, ◌++◌, length, take, drop, replicate, ◌==◌, nat_lt, slice_index, slice_index_or, slice_set}
 use Rattle.std.specs.Int.Count.{count_leading_zeros}
 use Rattle.lists.specs.declared.values.Sparse.{Sparse}
-use Rattle.lists.specs.Values.{SparseFits, valid, register, rank, lowered_rank, lowered_register}
+use Rattle.lists.specs.Values.{valid, register, rank, lowered_rank, lowered_register}
 use Rattle.lists.specs.Lists.{all_valid}
 
 -- ---- how registers lie in memory: these three alone know
@@ -79,10 +79,6 @@ unfoldable pub largest : List ℕ → ℕ
 largest [] = 0
 largest (r ∷ regs) = max r (largest regs)
 
--- Registers from an index on made zero, of 2^p.
-unfoldable pub cleared_from : ℕ → ℕ → List ℕ → List ℕ
-cleared_from p from regs = take from regs ++ replicate (2 ^ p - from) 0
-
 -- "Freed register bytes are zero": registers of precision q in front, where those of p were.
 abbrev pub with_freed : ℕ → ℕ → List ℕ → List ℕ
 with_freed p q regs = regs ++ replicate (2 ^ p - 2 ^ q) 0
@@ -118,11 +114,6 @@ pub record RaisePost (before : List ℕ) (i r : ℕ) (after : List ℕ) : Type 0
 pub record BothHold (p : ℕ) (target source : List ℕ) : Type 0 where
   pub into : Holds p target
   pub from : Holds p source
-
--- Registers that are to be zero from an index on.
-pub record ClearPre (p from : ℕ) (bytes : List ℕ) : Type 0 where
-  pub holds : Holds p bytes
-  pub within : from ≤ 2 ^ p
 
 -- A search for a register that is not zero, from an index to another.
 pub record ScanPre (from to : ℕ) (bytes : List ℕ) : Type 0 where
@@ -163,28 +154,15 @@ pub record DowngradePre (q d : ℕ) (source target : List ℕ) : Type 0 where
 unfoldable pub offset_rank : ℕ → ℕ → ℕ
 offset_rank d o = cond (nat_lt o (2 ^ d)) (1 + count_leading_zeros d o) 0
 
--- A value that is to raise its register, of 2^p.
-pub record SetPre (enc : Sparse) (v : ℕ) (bytes : List ℕ) : Type 0 where
-  pub fits : SparseFits enc
-  pub ok : valid enc.normal_precision enc.sparse_precision v ≡ true
-  pub room : register_bytes enc.normal_precision ≤ length bytes
-
--- The same d bits lower, of 2^(p-d).
-pub record SetLowerPre (enc : Sparse) (d v : ℕ) (bytes : List ℕ) : Type 0 where
-  pub fits : SparseFits enc
+-- A value that is to raise its register, d bits lower: of 2^(p-d).
+pub record SetPre (enc : Sparse) (d v : ℕ) (bytes : List ℕ) : Type 0 where
   pub ok : valid enc.normal_precision enc.sparse_precision v ≡ true
   pub few : d ≤ 20
   pub fewer : d ≤ enc.normal_precision
   pub room : register_bytes (enc.normal_precision - d) ≤ length bytes
 
 -- And those of a list.
-pub record SetListPre (enc : Sparse) (list bytes : List ℕ) : Type 0 where
-  pub fits : SparseFits enc
-  pub ok : all_valid enc.normal_precision enc.sparse_precision list ≡ true
-  pub room : register_bytes enc.normal_precision ≤ length bytes
-
-pub record SetListLowerPre (enc : Sparse) (d : ℕ) (list bytes : List ℕ) : Type 0 where
-  pub fits : SparseFits enc
+pub record SetListPre (enc : Sparse) (d : ℕ) (list bytes : List ℕ) : Type 0 where
   pub ok : all_valid enc.normal_precision enc.sparse_precision list ≡ true
   pub few : d ≤ 20
   pub fewer : d ≤ enc.normal_precision

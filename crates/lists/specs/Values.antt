@@ -2,7 +2,6 @@
 -- hash values), as document 01, module 3, has them. p is the normal precision, s the sparse precision.
 use Rattle.std.specs.Prelude.{◌≡◌, ℕ, ◌+◌, ◌-◌, ◌*◌, ◌/◌, ◌%◌, ◌^◌, ◌<◌, ◌≤◌, max, Bool, cond, ◌&&◌, ◌==◌, nat_le, nat_lt}
 use Rattle.std.specs.Int.Count.{count_leading_zeros}
-use Rattle.lists.specs.declared.values.Sparse.{Sparse}
 
 -- "The mark is bit max(s, p+6)."
 abbrev pub mark_bit : ℕ → ℕ → ℕ
@@ -76,16 +75,6 @@ pub record Pair (p s : ℕ) : Type 0 where
   pub high : p ≤ 24
   pub above : p ≤ s
   pub top : s ≤ 25
-
-pub record SparseFits (enc : Sparse) : Type 0 where
-  pub pair : Pair enc.normal_precision enc.sparse_precision
-  pub flag : enc.rho_encoded_flag ≡ mark enc.normal_precision enc.sparse_precision
-
--- What `Sparse::new` gives.
-pub record NewPost (p s : ℕ) (r : Sparse) : Type 0 where
-  pub fits : SparseFits r
-  pub normal : r.normal_precision ≡ p
-  pub sparse : r.sparse_precision ≡ s
 
 -- What is given for a valid value: its register, and its rank, each with its bound.
 pub record IndexPost (p s v r : ℕ) : Type 0 where

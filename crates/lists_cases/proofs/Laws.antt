@@ -8,15 +8,15 @@ use lib.ListN.{length, take, length-take}
 use Rattle.std.specs.Counts.{IsPrefixLen}
 use Rattle.console.proofs.TextLaws.{front}
 use Rattle.wire.specs.Reading.{Read, got, refused}
-use Rattle.lists.specs.declared.decoding.Decoded.{Decoded}
-use Rattle.lists.specs.declared.decoding.Decoded.TheVariants.{Done, Refused}
+use Rattle.lists.specs.declared.decoding.DecodeError.{DecodeError}
+use Rattle.std.proofs.Common.{Result, Ok}
 use Rattle.lists.specs.declared.merging.Merged.{Merged}
 use Rattle.lists.specs.declared.values.Sparse.{Sparse}
-use Rattle.lists.specs.Values.{Pair, SparseFits}
+use Rattle.lists.specs.Values.{Pair}
 use Rattle.lists.specs.Sorting.{ascends}
 use Rattle.lists.specs.Lists.{all_valid, Decodes, encode_list, written, distinct_slots, MergePost, InsertPre, InsertPost, IndexPre}
 use Rattle.lists.specs.Merging.{EncodePre, MergePre}
-use Rattle.lists.specs.Registers.{register_bytes, registers_of, largest, Holds, BothHold, LowerPre, DowngradePre, SetListPre, SetListLowerPre}
+use Rattle.lists.specs.Registers.{register_bytes, registers_of, largest, Holds, BothHold, LowerPre, DowngradePre, SetListPre}
 use Rattle.lists.proofs.MergeLaws.{length_encode}
 use Rattle.lists_cases.specs.Tests.{Mergeable, Insertable}
 
@@ -26,18 +26,12 @@ use Rattle.lists_cases.specs.Tests.{Mergeable, Insertable}
 pub filled : (n : ℕ) (out vs : List ℕ) → n ≡ length vs → take n out ≡ vs → IsPrefixLen n out
 filled n out vs e t = front n out (omega (arith, e, ap length t, length-take n out))
 
-abbrev done_count : Decoded → ℕ
-done_count (Done n) = n
-done_count (Refused n) = 0
-
-abbrev is_done : Decoded → Bool
-is_done (Done n) = true
-is_done (Refused n) = false
-
-pub decoded : (x : Read (List ℕ)) (r : Decoded) (out : List ℕ) (n : ℕ) → r ≡ Done n → Decodes x r out → IsPrefixLen n out
-decoded (got vs l) r out n e p =
-    let k = ap done_count (sym e ∙ p.0) in filled n out vs k (subst (λ (m : ℕ). take m out ≡ vs) (sym k) p.1)
-decoded (refused m) r out n e p = absurd (true≢false (ap is_done (sym e ∙ p)))
+pub decoded : (x : Read (List ℕ)) (r : Result ℕ DecodeError) (out : List ℕ) (n : ℕ) → r ≡ Ok n → Decodes x r out → IsPrefixLen n out
+decoded x r out n e p = go x (subst (λ (y : Result ℕ DecodeError). Decodes x y out) e p)
+  where
+    go : (x : Read (List ℕ)) → Decodes x (Ok n) out → IsPrefixLen n out
+    go (got vs l) q = filled n out vs q.0 q.1
+    go (refused m) q = absurd q
 
 pub merged_front : {p s : ℕ} {a b : List ℕ} (r : Merged) (out : List ℕ) → MergePost p s a b r out → IsPrefixLen r.len out
 merged_front r out m = filled r.len out _ m.count m.values
@@ -73,11 +67,10 @@ module _ (l : List ℕ) (n : ℕ) (e : n ≡ written l) (few : n ≤ 4096) where
   pub written_inside : (r k : ℕ) → r ≡ 0 + length (encode_list l) → 4096 ≤ k → r ≤ k
   written_inside r k next room = omega (arith, e, few, next, length_encode l, room)
 
-module _ (enc : Sparse) (fits : SparseFits enc) where
+module _ (enc : Sparse) where
   pub can_merge : (a b out : List ℕ) → Mergeable enc.normal_precision enc.sparse_precision a
       → Mergeable enc.normal_precision enc.sparse_precision b → 1024 ≤ length out → MergePre enc a b out
   can_merge a b out m n room = record {
-    fits = fits;
     left_order = m.order;
     left_valid = m.each;
     right_order = n.order;
@@ -89,7 +82,6 @@ module _ (enc : Sparse) (fits : SparseFits enc) where
       → Insertable enc.normal_precision enc.sparse_precision (take n union) bytes → n ≤ length union → length incoming ≤ 512
       → length incoming ≤ length union - n → InsertPre enc union n incoming bytes
   can_insert union n incoming bytes i h few room = record {
-    fits = fits;
     room = omega arith;
     rises = i.order;
     distinct = i.distinct;
@@ -99,23 +91,14 @@ module _ (enc : Sparse) (fits : SparseFits enc) where
 
   pub can_count : (l : List ℕ) → Mergeable enc.normal_precision enc.sparse_precision l
       → distinct_slots enc.normal_precision enc.sparse_precision l ≡ true → IndexPre enc l
-  can_count l m distinct = record { fits = fits; rises = m.order; allowed = m.each; distinct = distinct }
+  can_count l m distinct = record { rises = m.order; allowed = m.each; distinct = distinct }
 
   pub can_set : (list bytes : List ℕ) (q : ℕ) → all_valid enc.normal_precision enc.sparse_precision list ≡ true → Holds q bytes
-      → enc.normal_precision ≡ q → SetListPre enc list bytes
-  can_set list bytes q ok holds e = record {
-    fits = fits;
-    ok = ok;
-    room = subst (λ (x : ℕ). register_bytes x ≤ length bytes) (sym e) holds.room;
-  }
-
-  pub can_set_lower : (list bytes : List ℕ) (q : ℕ) → all_valid enc.normal_precision enc.sparse_precision list ≡ true → Holds q bytes
-      → 4 ≤ q → q ≤ enc.normal_precision → SetListLowerPre enc (enc.normal_precision - q) list bytes
-  can_set_lower list bytes q ok holds low h =
+      → 4 ≤ q → q ≤ enc.normal_precision → SetListPre enc (enc.normal_precision - q) list bytes
+  can_set list bytes q ok holds low h =
       let e : enc.normal_precision - (enc.normal_precision - q) ≡ q = omega arith in record {
-        fits = fits;
-        ok = ok;
-        few = omega (arith, fits.pair.high);
+            ok = ok;
+        few = omega (arith, enc.pair.high);
         fewer = omega arith;
         room = subst (λ (x : ℕ). register_bytes x ≤ length bytes) (sym e) holds.room;
       }

@@ -4,12 +4,12 @@
 #![tactic(auto)]
 
 ghost use Rattle.std.specs.Prelude.{◌≡◌, true, ◌≤◌, length};
-ghost use Rattle.lists.specs.Values.{SparseFits, valid};
+ghost use Rattle.lists.specs.Values.{valid};
 ghost use Rattle.lists.specs.Registers.{LowerPre};
 ghost use Rattle.lists_cases.specs.Tests.{Mergeable, Insertable};
 
 use console::text;
-use lists::decoding::Decoded;
+use lists::merging::Merged;
 use lists::values::Sparse;
 use std::io::Stdout;
 
@@ -36,12 +36,12 @@ fn print_lower(stdout: Stdout, p: u32, index: u32, rank: u8)
 }
 
 fn print_facts(stdout: Stdout, enc: Sparse, v: u32)
-    requires { SparseFits enc × (valid enc.normal_precision enc.sparse_precision v ≡ true) }
+    requires { valid enc.normal_precision enc.sparse_precision v ≡ true }
 {
-    let index = lists::values::decode_normal_index(enc, v);
-    let rank = lists::values::decode_normal_rho_w(enc, v);
+    let index = enc.decode_normal_index(v);
+    let rank = enc.decode_normal_rho_w(v);
     text::space(stdout);
-    text::print_value(stdout, lists::values::decode_sparse_index(enc, v));
+    text::print_value(stdout, enc.decode_sparse_index(v));
     text::space(stdout);
     text::print_value(stdout, index);
     text::space(stdout);
@@ -50,11 +50,10 @@ fn print_facts(stdout: Stdout, enc: Sparse, v: u32)
 }
 
 fn value_case(stdout: Stdout, enc: Sparse, v: u32)
-    requires { SparseFits enc }
 {
-    text::print_bool(stdout, lists::values::is_rho_encoded(enc, v));
+    text::print_bool(stdout, enc.is_rho_encoded(v));
     text::space(stdout);
-    let ok = lists::values::is_valid(enc, v);
+    let ok = enc.is_valid(v);
     text::print_bool(stdout, ok);
     if ok {
         print_facts(stdout, enc, v);
@@ -63,7 +62,6 @@ fn value_case(stdout: Stdout, enc: Sparse, v: u32)
 }
 
 fn value_line(stdout: Stdout, enc: Sparse, line: &[u8])
-    requires { SparseFits enc }
 {
     match text::read_value(text::word(line, 3)) {
         text::Value::Is(v) => value_case(stdout, enc, v),
@@ -74,23 +72,20 @@ fn value_line(stdout: Stdout, enc: Sparse, line: &[u8])
 // ---- lists
 
 fn decode_case(stdout: Stdout, enc: Sparse, bytes: &[u8])
-    requires { SparseFits enc }
 {
     let mut values = [0u32; 512];
     if 512 < bytes.len() {
         text::bad_case(stdout);
         return;
     }
-    let r = lists::decoding::decode_validated_into(bytes, enc, &mut values);
-    match r {
-        Decoded::Done(n) => text::print_list(stdout, &values[..n]),
-        Decoded::Refused(n) => text::print_refused(stdout, n),
+    match enc.decode_validated_into(bytes, &mut values) {
+        Ok(n) => text::print_list(stdout, &values[..n]),
+        Err(e) => text::print_refused(stdout, e as u8),
     }
     text::end_line(stdout);
 }
 
 fn decode_line(stdout: Stdout, enc: Sparse, line: &[u8])
-    requires { SparseFits enc }
 {
     let mut bytes = console::memory::buffer();
     let r = console::input::read_bytes(text::word(line, 3), &mut bytes);
@@ -180,7 +175,6 @@ fn print_merged(stdout: Stdout, list: &[u32], bytes: usize) {
 
 // Whether a list is one that can be merged.
 fn merges(enc: Sparse, l: &[u32]) -> bool
-    requires { SparseFits enc }
     ensures { result ≡ true → Mergeable enc.normal_precision enc.sparse_precision l.now }
 {
     if 512 < l.len() {
@@ -189,11 +183,10 @@ fn merges(enc: Sparse, l: &[u32]) -> bool
     if !lists::checking::is_ascending(l) {
         return false;
     }
-    lists::checking::all_valid(enc, l)
+    enc.all_valid(l)
 }
 
 fn merge_case(stdout: Stdout, enc: Sparse, a: &[u32], b: &[u32])
-    requires { SparseFits enc }
 {
     if !merges(enc, a) {
         text::bad_case(stdout);
@@ -204,12 +197,11 @@ fn merge_case(stdout: Stdout, enc: Sparse, a: &[u32], b: &[u32])
         return;
     }
     let mut out = [0u32; 1024];
-    let r = lists::merging::merge_dedupe_into(enc, a, b, &mut out);
+    let r = enc.merge_dedupe_into(a, b, &mut out);
     print_merged(stdout, &out[..r.len], r.bytes);
 }
 
 fn merge_line(stdout: Stdout, enc: Sparse, line: &[u8])
-    requires { SparseFits enc }
 {
     let mut a = [0u32; 512];
     let r = text::read_list(text::word(line, 3), &mut a);
@@ -228,13 +220,12 @@ fn merge_line(stdout: Stdout, enc: Sparse, line: &[u8])
 
 // Whether a list of this many bytes is one that a merge can have left.
 fn inserts(enc: Sparse, l: &[u32], bytes: usize) -> bool
-    requires { SparseFits enc }
     ensures { result ≡ true → Insertable enc.normal_precision enc.sparse_precision l.now bytes }
 {
     if !merges(enc, l) {
         return false;
     }
-    if !lists::inserting::has_distinct_slots(enc, l) {
+    if !enc.has_distinct_slots(l) {
         return false;
     }
     if bytes < lists::merging::written_len(l) {
@@ -255,7 +246,7 @@ fn insert_case(
     incoming: &[u32],
     bytes: usize,
 )
-    requires { SparseFits enc × (n ≤ length union.old) }
+    requires { n ≤ length union.old }
 {
     if !inserts(enc, &union[..n], bytes) {
         text::bad_case(stdout);
@@ -269,12 +260,11 @@ fn insert_case(
         text::bad_case(stdout);
         return;
     }
-    let r = lists::inserting::insert_dedupe(enc, union, n, incoming, bytes);
+    let r = enc.insert_dedupe(union, Merged { len: n, bytes }, incoming);
     print_merged(stdout, &union[..r.len], r.bytes);
 }
 
 fn insert_line(stdout: Stdout, enc: Sparse, line: &[u8])
-    requires { SparseFits enc }
 {
     let mut union = [0u32; 1024];
     let r = text::read_list(text::word(line, 4), &mut union);
@@ -302,22 +292,20 @@ fn insert_line(stdout: Stdout, enc: Sparse, line: &[u8])
 }
 
 fn count_case(stdout: Stdout, enc: Sparse, list: &[u32])
-    requires { SparseFits enc }
 {
     if !merges(enc, list) {
         text::bad_case(stdout);
         return;
     }
-    if !lists::inserting::has_distinct_slots(enc, list) {
+    if !enc.has_distinct_slots(list) {
         text::bad_case(stdout);
         return;
     }
-    text::print_number(stdout, lists::indices::distinct_indices(enc, list) as u64);
+    text::print_number(stdout, enc.distinct_indices(list) as u64);
     text::end_line(stdout);
 }
 
 fn count_line(stdout: Stdout, enc: Sparse, line: &[u8])
-    requires { SparseFits enc }
 {
     let mut list = [0u32; 512];
     let r = text::read_list(text::word(line, 3), &mut list);
@@ -352,7 +340,6 @@ fn print_registers(stdout: Stdout, p: u32, registers: &[u8]) {
 
 // The listed values raise registers of precision q.
 fn set_case(stdout: Stdout, enc: Sparse, q: u32, registers: &mut [u8], list: &[u32])
-    requires { SparseFits enc }
 {
     let p = enc.normal_precision;
     if p < q {
@@ -367,21 +354,15 @@ fn set_case(stdout: Stdout, enc: Sparse, q: u32, registers: &mut [u8], list: &[u
         text::bad_case(stdout);
         return;
     }
-    if !lists::checking::all_valid(enc, list) {
+    if !enc.all_valid(list) {
         text::bad_case(stdout);
         return;
     }
-    if p == q {
-        lists::registers::set_registers(registers, enc, list);
-        print_registers(stdout, q, &registers[..]);
-        return;
-    }
-    lists::registers::set_registers_lower(registers, enc, p - q, list);
+    lists::registers::set_registers(registers, enc, p - q, list);
     print_registers(stdout, q, &registers[..]);
 }
 
 fn set_line(stdout: Stdout, enc: Sparse, line: &[u8])
-    requires { SparseFits enc }
 {
     let mut registers = console::memory::buffer();
     let r = console::input::read_bytes(text::word(line, 4), &mut registers);
@@ -487,7 +468,6 @@ fn lower_line(stdout: Stdout, line: &[u8]) {
 
 // A case of a pair of precisions.
 fn pair_case(stdout: Stdout, kind: u8, enc: Sparse, line: &[u8])
-    requires { SparseFits enc }
 {
     match kind {
         b'v' => value_line(stdout, enc, line),

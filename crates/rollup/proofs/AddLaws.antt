@@ -1,28 +1,28 @@
 -- Adding: the questions one after the other, and what a refusal and an accepted state leave. `add_outcome` is unfolded here alone.
-use Rattle.std.proofs.Common.{◌≡◌, ℕ, ◌*◌, ◌≤◌, Bool, true, false, List, [], length, take, sym, refl, ap, ◌∙◌, subst, ap₂, arith, length-take-le}
+use Rattle.std.proofs.Common.{◌≡◌, ℕ, ◌*◌, ◌≤◌, Bool, true, false, List, [], length, take, sym, refl, ap, ◌∙◌, subst, ap₂, arith, length-take-le, Option, Result, Ok, Err}
 use mathlib.Core.List.Permᴰ
 use mathlib.Core.List.{Permᴰ}
 use Rattle.wire.specs.Reading.{Read, got, refused}
-use Rattle.wire.specs.State.{State, state_of}
-use Rattle.wire.specs.declared.state.Fields.{Fields}
-use Rattle.lists.specs.declared.decoding.Decoded.{Decoded}
-use Rattle.lists.specs.declared.decoding.Decoded.TheVariants.{Done, Refused}
+use Rattle.wire.specs.State.{State}
+use Rattle.wire.specs.declared.view.StateView.{StateView}
 use Rattle.lists.specs.Lists.{Decodes}
+use Rattle.lists.specs.declared.decoding.DecodeError.{DecodeError}
 use Rattle.lists.proofs.DecodingLaws.{accepted}
-use Rattle.rollup.specs.declared.judging.Judged.{Judged}
-use Rattle.rollup.specs.declared.judging.Judged.TheVariants.{State as JudgedState, Refused as JudgedRefused}
+use Rattle.rollup.specs.declared.refusal.Refusal.{Refusal}
+use Rattle.rollup.specs.declared.refusal.Refusal.TheVariants.{BadList}
+use Rattle.rollup.specs.Refusals.{number}
 use Rattle.rollup.specs.declared.accumulator.Accumulator.{Accumulator}
 use Rattle.rollup.specs.declared.incoming.Incoming.{Incoming}
 use Rattle.rollup.specs.declared.paths.Path.{Path}
-use Rattle.rollup.specs.declared.adding.AddedFitting.{AddedFitting}
+use Rattle.rollup.specs.declared.adding.Fitted.{Fitted}
 use Rattle.rollup.specs.Accumulator.{Mem, kept_of, fits}
-use Rattle.rollup.specs.Header.{data_of, list_of}
+use Rattle.rollup.specs.Header.{viewed, data_of, list_of}
 use Rattle.rollup.specs.Taking.{After, path_of, taken_after, Shows, Free}
 use Rattle.rollup.specs.Adding.{Outcome, refuse, accept, numbers_of, state_numbers, accepted_after, judge, has_room, listed_in, question, opened, add_outcome, judge_answer, AddPost}
-use Rattle.rollup.specs.Judging.{judged_refusal, JudgePost, RoomPre, ListedPre}
-use Rattle.rollup.specs.Stages.{KnownDistinct, PathPre, TakePre, TakingPre, distinct_after, AcceptPre, decoded_refusal, AcceptPost, FittingPost}
+use Rattle.rollup.specs.Judging.{JudgePost, RoomPre, ListedPre}
+use Rattle.rollup.specs.Stages.{KnownDistinct, InsertsPre, PathPre, TakePre, TakingPre, distinct_after, AcceptPre, AcceptPost, FittingPost}
 use Rattle.rollup.proofs.FitLaws.{fit_sparse}
-use Rattle.rollup.proofs.JudgeLaws.{judged_state, judged_short, judged_no, listed_pre}
+use Rattle.rollup.proofs.JudgeLaws.{judged_state, judged_short, listed_pre}
 use Rattle.rollup.proofs.TakeLaws.{fit_kept, Ready, ready_takes}
 use Rattle.rollup.proofs.KeepsLaws.{taken_keeps}
 use Rattle.rollup.proofs.DistinctLaws.{distinct_after_lem}
@@ -81,10 +81,10 @@ module _ (a : Accumulator) (m : Mem) (room : ℕ) (bytes : List ℕ) where
 
   -- ---- what is left
 
-  pub refused_post : (n : ℕ) → add_outcome a m room bytes ≡ refuse n a m → AddPost a m room bytes (record { answer = n; head = a }) m
+  pub refused_post : (n : ℕ) → add_outcome a m room bytes ≡ refuse n a m → AddPost a m room bytes n a m
   refused_post n e =
       record {
-        answer = ap (λ (x : Outcome). x.answer) (sym e);
+        answered = ap (λ (x : Outcome). x.answer) (sym e);
         after =
             record {
               head = ap (λ (x : Outcome). x.after.head) (sym e);
@@ -96,10 +96,10 @@ module _ (a : Accumulator) (m : Mem) (room : ℕ) (bytes : List ℕ) where
       }
 
   pub accepted_post : (x : After) (h : Accumulator) (n : Mem) → add_outcome a m room bytes ≡ accept x → Shows x h n → Free m n
-      → AddPost a m room bytes (record { answer = 0; head = h }) n
+      → AddPost a m room bytes 0 h n
   accepted_post x h n e shows same =
       record {
-        answer = ap (λ (y : Outcome). y.answer) (sym e);
+        answered = ap (λ (y : Outcome). y.answer) (sym e);
         after = subst (λ (y : Outcome). Shows y.after h n) (sym e) shows;
         free = same;
       }
@@ -120,11 +120,11 @@ module _ {a : Accumulator} {distinct : Bool} {m : Mem} {scratch : List ℕ} {st 
   pub accept_kept : a.sparse_len ≤ length m.sparse
   accept_kept = fit_kept a m pre.taken.fit
 
-  module _ (x : Incoming) (list : List ℕ) (there : list ≡ list_of st) (numbers : x ≡ numbers_of st (length list) k) where
+  module _ {x : Incoming} (numbers : x ≡ numbers_of st (length (list_of st)) k) {kept : List ℕ} (there : kept ≡ kept_of a m) where
     the_state : x ≡ state_numbers st vs
-    the_state = numbers ∙ ap₂ (numbers_of st) (ap length there) (sym count)
+    the_state = numbers ∙ ap (numbers_of st (length (list_of st))) (sym count)
 
-    pub accept_path : PathPre a x (kept_of a m) k distinct
+    pub accept_path : PathPre a x kept k distinct
     accept_path f =
         let s = fit_sparse a m pre.taken.fit f in (
           record {
@@ -135,10 +135,14 @@ module _ {a : Accumulator} {distinct : Bool} {m : Mem} {scratch : List ℕ} {st 
             growth = subst (λ (y : Incoming). y.growth ≤ 5 * 2147483647) (sym the_state) pre.taken.growth_high;
             incoming = accept_few;
           },
-          record { pair = s.pair; order = s.order; all = s.kept_valid; known = pre.known },
+          subst (λ (l : List ℕ). InsertsPre a l distinct) (sym there)
+          (record { pair = s.pair; order = s.order; all = s.kept_valid; known = pre.known }),
         )
 
-    module _ (path : Path) (its : path ≡ path_of a.form a (kept_of a m) x k) (row : List ℕ) (same : row ≡ data_of st) where
+    module _ {path : Option Path} (its : path ≡ path_of a.form a kept x k) {row : List ℕ} (same : row ≡ data_of st) where
+      its_path : path ≡ path_of a.form a (kept_of a m) x k
+      its_path = its ∙ ap (λ (l : List ℕ). path_of a.form a l x k) there
+
       pub accept_taking : TakingPre a m scratch x path row k
       accept_taking =
           record {
@@ -146,114 +150,100 @@ module _ {a : Accumulator} {distinct : Bool} {m : Mem} {scratch : List ℕ} {st 
             taken =
                 subst (λ (y : Incoming). TakePre a m (length scratch) y row vs) (sym the_state)
                 (subst (λ (l : List ℕ). TakePre a m (length scratch) (state_numbers st vs) l vs) (sym same) pre.taken);
-            its = its;
+            its = its_path;
           }
 
-      pub accept_post : (r : Accumulator) (n : Mem) (known : Bool) → known ≡ distinct_after a.form path distinct
-          → Shows (taken_after a.form a m x row vs) r n → AcceptPost a m st vs (record { answer = 0; head = r; distinct = known }) n
-      accept_post r n known e shows =
+      pub accept_post : {known : Bool} → known ≡ distinct_after a.form path distinct → {r : Accumulator} {n : Mem}
+          → Shows (taken_after a.form a m x row vs) r n → AcceptPost a m st vs (record { head = r; distinct = known }) n
+      accept_post {known} e {r} {n} shows =
           let shown : Shows (accepted_after a.form a m st vs) r n =
           subst (λ (y : Incoming). Shows (taken_after a.form a m y (data_of st) vs) r n) the_state
           (subst (λ (l : List ℕ). Shows (taken_after a.form a m x l vs) r n) same shows) in
           record {
-            answer = refl;
             after = shown;
             known =
                 subst (λ (b : Bool). KnownDistinct b r.precision r.sparse_precision (kept_of r n)) (sym e)
                 (distinct_after_lem pre.taken distinct pre.known path
-                (its ∙ ap₂ (λ (y : Incoming) (j : ℕ). path_of a.form a (kept_of a m) y j) the_state (sym count)) r n shown);
+                (its_path ∙ ap₂ (λ (y : Incoming) (j : ℕ). path_of a.form a (kept_of a m) y j) the_state (sym count)) r n shown);
           }
 
 -- ---- the stages, as the code has them
 
 -- A list that is refused, and one that is read.
-listed_no : (x : Read (List ℕ)) (n : ℕ) (out : List ℕ) → Decodes x (Refused n) out → x ≡ refused n
-listed_no (got vs l) n out e = absurd (let z : ◌≡◌ {A = ℕ} 0 1 = cc in omega arith)
-listed_no (refused k) n out e = ap refused (let z : k ≡ n = cc in z)
+listed_no : (x : Read (List ℕ)) (e : DecodeError) (out : List ℕ) → Decodes x (Err e) out → x ≡ refused (number (BadList e))
+listed_no (got vs l) e out d = absurd d
+listed_no (refused k) e out d = ap refused (sym d)
 
 record Listed (x : Read (List ℕ)) (k : ℕ) (out : List ℕ) : Type 0 where
   rest : List ℕ
   read : x ≡ got (take k out) rest
   count : k ≡ length (take k out)
 
-listed_yes : (x : Read (List ℕ)) (k : ℕ) (out : List ℕ) → Decodes x (Done k) out → Listed x k out
+listed_yes : (x : Read (List ℕ)) (k : ℕ) (out : List ℕ) → Decodes x (Ok k) out → Listed x k out
 listed_yes (got vs l) k out e =
-    let n : k ≡ length vs = (let z : Done k ≡ Done (length vs) = e.0 in cc) in
-    let same : take k out ≡ vs = ap (λ (j : ℕ). take j out) n ∙ e.1 in
-    record { rest = l; read = ap (λ (v : List ℕ). got v l) (sym same); count = n ∙ ap length (sym same) }
-listed_yes (refused n) k out e = absurd (let z : ◌≡◌ {A = ℕ} 0 1 = cc in omega arith)
+    record { rest = l; read = ap (λ (v : List ℕ). got v l) (sym e.1); count = e.0 ∙ ap length (sym e.1) }
+listed_yes (refused n) k out e = absurd e
 
 module _ (a : Accumulator) (m : Mem) (room : ℕ) (bytes : List ℕ) (fit : fits a m ≡ true) where
-  pub judge_stop : (r : Judged) (n k : ℕ) → r ≡ JudgedRefused k → JudgePost a bytes r → n ≡ judged_refusal r
-      → AddPost a m room bytes (record { answer = n; head = a }) m
-  judge_stop r n k e post f =
-      refused_post a m room bytes n
-      (add_judged a m room bytes n fit
-      (judged_no a bytes k (subst (JudgePost a bytes) e post) ∙ ap refused (sym (f ∙ ap judged_refusal e))))
+  pub judge_stop : (e : Refusal) → JudgePost a bytes (Err e) → AddPost a m room bytes (number e) a m
+  judge_stop e post = refused_post a m room bytes (number e) (add_judged a m room bytes (number e) fit (sym post.answer))
 
-  module _ (r : Judged) (f : Fields) (e : r ≡ JudgedState f) (post : JudgePost a bytes r) where
-    is_state : JudgePost a bytes (JudgedState f)
-    is_state = subst (JudgePost a bytes) e post
+  module _ (v : StateView) (post : JudgePost a bytes (Ok v)) where
+    state_judged : judge_answer a (viewed v) ≡ 0
+    state_judged = judged_state a bytes v post
 
-    state_judged : judge_answer a (state_of bytes f) ≡ 0
-    state_judged = judged_state a bytes f is_state
+    pub room_pre : RoomPre a m (viewed v)
+    room_pre = record { fit = fit; judged = state_judged; short = judged_short a bytes v post }
 
-    pub room_pre : RoomPre a m (state_of bytes f)
-    room_pre = record { fit = fit; judged = state_judged; short = judged_short a bytes f is_state }
+    pub room_stop : has_room a m room (viewed v) ≡ false → AddPost a m room bytes 17 a m
+    room_stop h = refused_post a m room bytes 17 (add_full a m room bytes (viewed v) [] fit (sym post.answer) h)
 
-    pub room_stop : has_room a m room (state_of bytes f) ≡ false → AddPost a m room bytes (record { answer = 17; head = a }) m
-    room_stop h = refused_post a m room bytes 17 (add_full a m room bytes (state_of bytes f) [] fit (sym is_state.answer) h)
+    module _ (there : has_room a m room (viewed v) ≡ true) where
+      pub list_pre : ListedPre (viewed v) room
+      list_pre = listed_pre a m room (viewed v) state_judged there
 
-    module _ (there : has_room a m room (state_of bytes f) ≡ true) where
-      pub list_pre : ListedPre (state_of bytes f) room
-      list_pre = listed_pre a m room (state_of bytes f) state_judged there
+      pub list_stop : (e : DecodeError) (out : List ℕ) → Decodes (listed_in (viewed v)) (Err e) out → AddPost a m room bytes (number (BadList e)) a m
+      list_stop e out x =
+          refused_post a m room bytes (number (BadList e))
+          (add_listed a m room bytes (viewed v) [] fit (sym post.answer) (number (BadList e)) there (listed_no (listed_in (viewed v)) e out x))
 
-      pub list_stop : (d : Decoded) (n k : ℕ) (out : List ℕ) → d ≡ Refused k → Decodes (listed_in (state_of bytes f)) d out → n ≡ decoded_refusal d
-          → AddPost a m room bytes (record { answer = n; head = a }) m
-      list_stop d n k out g x h =
-          refused_post a m room bytes n
-          (add_listed a m room bytes (state_of bytes f) [] fit (sym is_state.answer) n there
-          (listed_no (listed_in (state_of bytes f)) k out (subst (λ (y : Decoded). Decodes (listed_in (state_of bytes f)) y out) g x)
-          ∙ ap refused (sym (h ∙ ap decoded_refusal g))))
+      module _ (k : ℕ) (out : List ℕ) (x : Decodes (listed_in (viewed v)) (Ok k) out) (same : length out ≡ room) where
+        values : Listed (listed_in (viewed v)) k out
+        values = listed_yes (listed_in (viewed v)) k out x
 
-      module _ (d : Decoded) (k : ℕ) (out : List ℕ) (g : d ≡ Done k) (x : Decodes (listed_in (state_of bytes f)) d out) (same : length out ≡ room) where
-        values : Listed (listed_in (state_of bytes f)) k out
-        values = listed_yes (listed_in (state_of bytes f)) k out (subst (λ (y : Decoded). Decodes (listed_in (state_of bytes f)) y out) g x)
-
-        list_end : listed_in (state_of bytes f) ≡ got (take k out) []
+        list_end : listed_in (viewed v) ≡ got (take k out) []
         list_end =
             values.read
             ∙ ap (λ (l : List ℕ). got (take k out) l)
-            (accepted f.hll.precision f.hll.sparse_precision (list_of (state_of bytes f)) values.read).end
+            (accepted v.fields.hll.precision v.fields.hll.sparse_precision (list_of (viewed v)) values.read).end
 
-        ready : Ready a m (length out) (state_of bytes f) (take k out)
+        ready : Ready a m (length out) (viewed v) (take k out)
         ready =
             record {
               fit = fit;
               judged = state_judged;
-              space = subst (λ (n : ℕ). has_room a m n (state_of bytes f) ≡ true) (sym same) there;
+              space = subst (λ (n : ℕ). has_room a m n (viewed v) ≡ true) (sym same) there;
               listed = list_end;
-              short = judged_short a bytes f is_state;
+              short = judged_short a bytes v post;
             }
 
         pub accept_pre : (distinct : Bool) → KnownDistinct distinct a.precision a.sparse_precision (kept_of a m)
-            → AcceptPre a distinct m out (state_of bytes f) k
+            → AcceptPre a distinct m out (viewed v) k
         accept_pre distinct known =
-            let few = (accepted f.hll.precision f.hll.sparse_precision (list_of (state_of bytes f)) values.read).fewer in
+            let few = (accepted v.fields.hll.precision v.fields.hll.sparse_precision (list_of (viewed v)) values.read).fewer in
             record { inside = omega (arith, few, values.count, list_pre.space, same); taken = ready_takes ready; known = known }
 
-        pub all_accepted : (r : AddedFitting) (n : Mem) → AcceptPost a m (state_of bytes f) (take k out) r n → Free m n → FittingPost a m room bytes r n
-        all_accepted r n post free =
+        pub all_accepted : (r : Fitted) (n : Mem) → AcceptPost a m (viewed v) (take k out) r n → Free m n → FittingPost a m room bytes 0 r n
+        all_accepted r n left free =
             record {
               added =
-                  subst (λ (z : ℕ). AddPost a m room bytes (record { answer = z; head = r.head }) n) (sym post.answer)
-                  (accepted_post a m room bytes (accepted_after a.form a m (state_of bytes f) (take k out)) r.head n
-                  (add_accepted a m room bytes (state_of bytes f) [] fit (sym is_state.answer) (take k out) [] there list_end) post.after free);
+                  accepted_post a m room bytes (accepted_after a.form a m (viewed v) (take k out)) r.head n
+                  (add_accepted a m room bytes (viewed v) [] fit (sym post.answer) (take k out) [] there list_end) left.after free;
               sound =
                   record {
                     fit =
-                        taken_keeps a m (length out) (state_numbers (state_of bytes f) (take k out)) (data_of (state_of bytes f)) (take k out) (ready_takes ready) r.head n
-                        post.after;
-                    known = post.known;
+                        taken_keeps a m (length out) (state_numbers (viewed v) (take k out)) (data_of (viewed v)) (take k out) (ready_takes ready) r.head n
+                        left.after;
+                    known = left.known;
                   };
             }

@@ -9,7 +9,6 @@ use Rattle.wire.specs.State.{State}
 use Rattle.lists.specs.Registers.{larger, lowered}
 use Rattle.lists.proofs.RankLaws.{lowered_length, registers_larger, registers_twice}
 use Rattle.rollup.specs.declared.accumulator.Accumulator.{Accumulator}
-use Rattle.rollup.specs.declared.adding.Added.{Added}
 use Rattle.rollup.specs.Accumulator.{Mem, fresh, is_started}
 use Rattle.rollup.specs.Header.{data_of, mask_of}
 use Rattle.rollup.specs.Adding.{state_numbers}
@@ -90,7 +89,7 @@ moves (st ∷ sts) a m n mv t =
     }
 
 -- An accepted state.
-module _ (room : ℕ) (bytes : List ℕ) (a : Accumulator) (m : Mem) (r : Added) (n : Mem) (x : IsAccepted a m room bytes r n) where
+module _ (room : ℕ) (bytes : List ℕ) (a : Accumulator) (m : Mem) (answer : ℕ) (head : Accumulator) (n : Mem) (x : IsAccepted a m room bytes answer head n) where
   abbrev st : State
   st = state_in bytes
 
@@ -103,10 +102,10 @@ module _ (room : ℕ) (bytes : List ℕ) (a : Accumulator) (m : Mem) (r : Added)
   taken : TakePre a m room (state_numbers st vs) (data_of st) vs
   taken = ready_takes x.ready
 
-  grows : (sts : List State) → Stands sts a m → Stands (st ∷ sts) r.head n
+  grows : (sts : List State) → Stands sts a m → Stands (st ∷ sts) head n
   unfolding largest_registers registers_in
   grows [] e =
-      let t = first_took a m room (state_numbers st vs) (data_of st) vs taken r.head n (ap (λ (h : Accumulator). h.form) e) x.shows in
+      let t = first_took a m room (state_numbers st vs) (data_of st) vs taken head n (ap (λ (h : Accumulator). h.form) e) x.shows in
       let one = over_one 0 min (λ (s : State). s.hll.precision) st in
       record {
         started = t.started;
@@ -125,7 +124,7 @@ module _ (room : ℕ) (bytes : List ℕ) (a : Accumulator) (m : Mem) (r : Added)
       let next : q' ≡ min q p = over_more 0 min (λ (s : State). s.hll.precision) st last sts in
       let down : q' ≤ q = (let h = min-le_left q p in omega arith) in
       let same : min a.precision p ≡ q' = ap (λ (k : ℕ). min k p) s.precision ∙ sym next in
-      let t = more_took a m room (state_numbers st vs) (data_of st) vs taken r.head n s.started x.shows in
+      let t = more_took a m room (state_numbers st vs) (data_of st) vs taken head n s.started x.shows in
       record {
         started = t.started;
         precision = t.precision ∙ same;
@@ -171,17 +170,17 @@ accepted_moved calls = refl
 
 stands : {first : Mem} {calls : List Call} {a : Accumulator} {m : Mem} → Run first calls a m → Stands (states calls) a m
 stands {first = m} begun = subst (λ (bs : List (List ℕ)). Stands (map state_in bs) fresh m) (sym accepted_none) refl
-stands (adding {calls = calls} {a = a} {m = m} room bytes r n run post) =
+stands (adding {calls = calls} {a = a} {m = m} room bytes answer head n run post) =
     ⊎_elim
-    (λ (x : IsRefused a m r n).
-    let e = accepted_no room bytes r.answer calls x.number in
-    subst (λ (bs : List (List ℕ)). Stands (map state_in bs) r.head n) (sym e)
-    (stays (states calls) a m r.head n x.same (stands run)))
-    (λ (x : IsAccepted a m room bytes r n).
-    let e = accepted_yes room bytes r.answer calls x.none in
-    subst (λ (bs : List (List ℕ)). Stands (map state_in bs) r.head n) (sym e) (grows room bytes a m r n x (states calls) (stands run))) (add_view a m room bytes r n (run_fits run) post)
-stands (writing {calls = calls} {a = a} {m = m} room out r n after run post) =
-    let e = accepted_wrote room out r.answer calls in
+    (λ (x : IsRefused a m answer head n).
+    let e = accepted_no room bytes answer calls x.number in
+    subst (λ (bs : List (List ℕ)). Stands (map state_in bs) head n) (sym e)
+    (stays (states calls) a m head n x.same (stands run)))
+    (λ (x : IsAccepted a m room bytes answer head n).
+    let e = accepted_yes room bytes answer calls x.none in
+    subst (λ (bs : List (List ℕ)). Stands (map state_in bs) head n) (sym e) (grows room bytes a m answer head n x (states calls) (stands run))) (add_view a m room bytes answer head n (run_fits run) post)
+stands (writing {calls = calls} {a = a} {m = m} room out answer len n after run post) =
+    let e = accepted_wrote room out answer calls in
     subst (λ (bs : List (List ℕ)). Stands (map state_in bs) a n) (sym e)
     (stays (states calls) a m a n post.same (stands run))
 stands (moving {calls = calls} {a = a} {m = m} n run post) =
@@ -191,8 +190,8 @@ stands (moving {calls = calls} {a = a} {m = m} n run post) =
 answered : {a₀ : Accumulator} {m₀ : Mem} {calls : List Call} {a : Accumulator} {m : Mem} (steps : Steps a₀ m₀ calls a m) → Answered steps
 unfolding Answered
 answered begun = tt
-answered (adding room bytes r n steps post) = (answered steps, post.answer)
-answered (writing room out r n after steps post) = (answered steps, post.answer)
+answered (adding room bytes answer head n steps post) = (answered steps, post.answered)
+answered (writing room out answer len n after steps post) = (answered steps, post.answered)
 answered (moving n steps post) = answered steps
 
 -- ---- the theorem

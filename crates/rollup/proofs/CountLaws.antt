@@ -61,24 +61,24 @@ pub steps_count : {a₀ : Accumulator} {m₀ : Mem} {calls : List Call} {a : Acc
     → count_of a.form a ≡ (count_of a₀.form a₀ + sum_of_counts (states calls)) % 2 ^ 64
 unfolding accepted sum_of_counts
 steps_count (begun {a = a}) fit w = omega (arith, count_small a.form a w)
-steps_count {a₀ = a₀} (adding {calls = calls} {a = a} {m = m} room bytes r n steps post) fit w =
+steps_count {a₀ = a₀} (adding {calls = calls} {a = a} {m = m} room bytes answer head n steps post) fit w =
     let old = count_of a₀.form a₀ in
     let before = steps_count steps fit w in
     let given : Bool → List (List ℕ) = λ b. cond b (bytes ∷ accepted calls) (accepted calls) in
     ⊎_elim
-    (λ (x : IsRefused a m r n).
-    subst (λ (b : Bool). CountIs old (given b) r.head) (sym (ne_eqb r.answer 0 x.number))
+    (λ (x : IsRefused a m answer head n).
+    subst (λ (b : Bool). CountIs old (given b) head) (sym (ne_eqb answer 0 x.number))
     (subst (CountIs old (accepted calls)) (sym x.same.head) before))
-    (λ (x : IsAccepted a m room bytes r n).
+    (λ (x : IsAccepted a m room bytes answer head n).
     let st = state_in bytes in
     let vs = values_in st in
     let sum = sum_of_counts (states calls) in
     let more : ((old + sum) % 2 ^ 64 + st.num_values) % 2 ^ 64 ≡ (old + (st.num_values + sum)) % 2 ^ 64 = omega arith in
-    subst (λ (b : Bool). CountIs old (given b) r.head) (sym (eq-eqb r.answer 0 x.none))
+    subst (λ (b : Bool). CountIs old (given b) head) (sym (eq-eqb answer 0 x.none))
     (subst (CountIs old (bytes ∷ accepted calls)) (sym x.shows.head)
     (taken_count a m (state_numbers st vs) (data_of st) vs (state_widths bytes vs) ∙ ap (λ (k : ℕ). (k + st.num_values) % 2 ^ 64) before ∙ more)))
-    (add_view a m room bytes r n (steps_fit steps fit) post)
-steps_count (writing room out r n after steps post) fit w = steps_count steps fit w
+    (add_view a m room bytes answer head n (steps_fit steps fit) post)
+steps_count (writing room out answer len n after steps post) fit w = steps_count steps fit w
 steps_count (moving n steps post) fit w = steps_count steps fit w
 
 pub run_count : {first : Mem} {calls : List Call} {a : Accumulator} {m : Mem} → Run first calls a m → count_of a.form a ≡ sum_of_counts (states calls) % 2 ^ 64

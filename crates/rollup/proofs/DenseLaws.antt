@@ -4,16 +4,16 @@ use mathlib.Core.List.{Permᴰ}
 use native.Mathlib.Nat.{min-le_left, min-le_right}
 use lib.ListN.{length-replicate}
 use Rattle.lists.specs.declared.values.Sparse.{Sparse as Encoding}
-use Rattle.lists.specs.Values.{NewPost}
+use Rattle.lists.specs.Pairs.{NewPost}
 use Rattle.lists.specs.Lists.{all_valid}
-use Rattle.lists.specs.Registers.{register_bytes, registers_of, with_registers, raised_by, raised_lower, larger, lowered, largest, lowered_in_place, BothHold, LowerPre, DowngradePre, SetListPre, SetListLowerPre}
+use Rattle.lists.specs.Registers.{register_bytes, registers_of, with_registers, raised_lower, larger, lowered, largest, lowered_in_place, BothHold, LowerPre, DowngradePre, SetListPre}
 use Rattle.lists.proofs.RegisterLaws.{with_room, of_length, with_of, row_holds, row_registers, fewer_bytes, of_front, with_front}
-use Rattle.lists.proofs.RankLaws.{registers_same, lower_none, lowered_length}
+use Rattle.lists.proofs.RankLaws.{registers_same, lowered_length}
 use Rattle.rollup.specs.declared.accumulator.Accumulator.{Accumulator}
 use Rattle.rollup.specs.declared.incoming.Incoming.{Incoming}
 use Rattle.rollup.specs.Accumulator.{mem}
 use Rattle.rollup.specs.Taking.{After, dense_head, counted, signed_min, raised_to, dense_after, Shows}
-use Rattle.rollup.specs.Stages.{LowerOwnPre, LowerOwnPost, RaiseByRowPre, RaiseByListPre, RaisePre, DensePre, DensePost}
+use Rattle.rollup.specs.Stages.{LowerOwnPre, LowerOwnPost, RaiseByRowPre, RaiseByListPre, RaisePre, DensePre}
 
 -- ---- the smaller as signed numbers
 
@@ -110,53 +110,26 @@ module _ (q p s : ℕ) (vs registers : List ℕ) (pre : RaiseByListPre q p s vs 
   list_place : enc.normal_precision - (p - q) ≡ q
   list_place = omega (arith, new.normal, pre.order)
 
-  pub list_lower : q < p → SetListLowerPre enc (p - q) vs registers
-  list_lower h =
+  pub list_set : SetListPre enc (p - q) vs registers
+  list_set =
       record {
-        fits = new.fits;
         ok = list_valid;
         few = omega (arith, pre.low, pre.pair.high);
         fewer = omega (arith, new.normal);
         room = subst (λ (n : ℕ). register_bytes n ≤ length registers) (sym list_place) pre.room;
       }
 
-  pub list_lowered : (after : List ℕ)
+  pub list_raised : (after : List ℕ)
       → after
       ≡ with_registers (enc.normal_precision - (p - q))
       (raised_lower enc.normal_precision enc.sparse_precision (p - q) (registers_of (enc.normal_precision - (p - q)) registers) vs) registers
       → after ≡ with_registers q (raised_lower p s (p - q) (registers_of q registers) vs) registers
-  list_lowered after e =
+  list_raised after e =
       e
       ∙ ap
       (λ (n : ℕ).
       with_registers n (raised_lower enc.normal_precision enc.sparse_precision (p - q) (registers_of n registers) vs) registers) list_place
       ∙ ap₂ (λ (a b : ℕ). with_registers q (raised_lower a b (p - q) (registers_of q registers) vs) registers) new.normal new.sparse
-
-  list_same : p ≤ q → enc.normal_precision ≡ q
-  list_same h = omega (arith, new.normal, pre.order)
-
-  pub list_set : p ≤ q → SetListPre enc vs registers
-  list_set h =
-      record {
-        fits = new.fits;
-        ok = list_valid;
-        room = subst (λ (n : ℕ). register_bytes n ≤ length registers) (sym (list_same h)) pre.room;
-      }
-
-  pub list_raised : (after : List ℕ) → p ≤ q
-      → after
-      ≡ with_registers enc.normal_precision
-      (raised_by enc.normal_precision enc.sparse_precision (registers_of enc.normal_precision registers) vs) registers
-      → after ≡ with_registers q (raised_lower p s (p - q) (registers_of q registers) vs) registers
-  list_raised after h e =
-      let same : p ≡ q = omega (arith, pre.order) in
-      e
-      ∙ ap₂ (λ (a b : ℕ). with_registers a (raised_by a b (registers_of a registers) vs) registers) new.normal new.sparse
-      ∙ ap (λ (a : ℕ). with_registers a (raised_by p s (registers_of a registers) vs) registers) same
-      ∙ ap (λ (l : List ℕ). with_registers q l registers)
-      (sym
-      (ap (λ (d : ℕ). raised_lower p s d (registers_of q registers) vs) (let g : p - q ≡ 0 = omega arith in g)
-      ∙ lower_none p s (registers_of q registers) vs))
 
 -- ---- either
 
@@ -203,7 +176,10 @@ dense_shown x r after e f kept waiting no_kept no_waiting sparse pending =
           (subst (λ (l : List ℕ). Permᴰ [] l) (sym no_waiting) Permᴰ.nil);
     }
 
-module _ (a : Accumulator) (registers : List ℕ) (x : Incoming) (row vs : List ℕ) (pre : DensePre a registers x row vs) where
+module _ {a : Accumulator} {registers scratch : List ℕ} {x : Incoming} {row : List ℕ} {k : ℕ} (pre : DensePre a registers scratch x row k) where
+  abbrev vs : List ℕ
+  vs = take k scratch
+
   -- The smaller precision, the registers of it and those that are freed.
   abbrev common : ℕ
   common = min a.precision x.precision
@@ -225,7 +201,7 @@ module _ (a : Accumulator) (registers : List ℕ) (x : Incoming) (row vs : List 
   common_low : 4 ≤ common
   common_low = omega (arith, pre.own_low, pre.low)
 
-  module _ (q : ℕ) (after : List ℕ) (post : LowerOwnPost a.precision x.precision registers q after) where
+  module _ {q : ℕ} {after : List ℕ} (post : LowerOwnPost a.precision x.precision registers q after) where
     after_room : register_bytes common ≤ length after
     after_room =
         le_trans (fewer_bytes common a.precision (min-le_left a.precision x.precision))
@@ -251,18 +227,14 @@ module _ (a : Accumulator) (registers : List ℕ) (x : Incoming) (row vs : List 
         (of_front common a.precision own freed registers own_length)
         ∙ with_front common a.precision own freed registers own_length (raised_to common x row vs own)
 
-    pub dense_post : (h r : Accumulator) (s : ℕ) (last : List ℕ) → last ≡ with_registers q (raised_to q x row vs (registers_of q after)) after
-        → h ≡ counted a x → s ≡ signed_min a.sparse_precision x.sparse_precision
-        → r ≡ dense_head h.allowed h.value_type h.num_values q s h.sparse_size h.sparse_bytes
-        → DensePost a registers x row vs r last
+    pub dense_post : {h : Accumulator} {s : ℕ} {last : List ℕ} → last ≡ with_registers q (raised_to q x row vs (registers_of q after)) after
+        → h ≡ counted a x → s ≡ signed_min a.sparse_precision x.sparse_precision → (sparse pending : List ℕ)
+        → Shows (dense_after a (mem registers sparse pending) x row vs)
+        (dense_head h.allowed h.value_type h.num_values q s h.sparse_size h.sparse_bytes) (mem last sparse pending)
     unfolding dense_after
-    dense_post h r s last e e1 e2 f =
-        record {
-          shows = λ (sparse pending : List ℕ).
-              dense_shown (dense_after a (mem registers sparse pending) x row vs) r last
-              (f ∙ ap (λ (g : Accumulator). head g q s) e1 ∙ ap₂ (λ (n t : ℕ). head (counted a x) n t) post.smaller e2) (raised_all last e) refl refl refl refl sparse
-              pending;
-        }
+    dense_post {h} {s} {last} e e1 e2 sparse pending =
+        dense_shown (dense_after a (mem registers sparse pending) x row vs) (head h q s) last
+        (ap (λ (g : Accumulator). head g q s) e1 ∙ ap₂ (λ (n t : ℕ). head (counted a x) n t) post.smaller e2) (raised_all last e) refl refl refl refl sparse pending
       where
         head : Accumulator → ℕ → ℕ → Accumulator
         head g n t = dense_head g.allowed g.value_type g.num_values n t g.sparse_size g.sparse_bytes

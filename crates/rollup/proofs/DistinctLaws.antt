@@ -1,6 +1,6 @@
 -- What is known of the list that is kept is so after something was taken in: a merge leaves one that a merge can leave, and nothing else changes it but the first that is taken in
 -- and a row of registers.
-use Rattle.std.proofs.Common.{◌≡◌, ℕ, Bool, true, false, ltb, List, [], ◌++◌, length, sym, subst}
+use Rattle.std.proofs.Common.{◌≡◌, ℕ, Bool, true, false, ltb, List, [], ◌++◌, length, sym, subst, Option, Some, None}
 use Rattle.wire.proofs.BoolLaws.{never}
 use Rattle.lists.proofs.MergeLaws.{merged_distinct, distinct_none}
 use Rattle.rollup.specs.declared.accumulator.Form.{Form}
@@ -8,7 +8,7 @@ use Rattle.rollup.specs.declared.accumulator.Form.TheVariants.{Unstarted, Sparse
 use Rattle.rollup.specs.declared.accumulator.Accumulator.{Accumulator}
 use Rattle.rollup.specs.declared.incoming.Incoming.{Incoming}
 use Rattle.rollup.specs.declared.paths.Path.{Path}
-use Rattle.rollup.specs.declared.paths.Path.TheVariants.{None, Waits, Sorts, Inserts, Merges}
+use Rattle.rollup.specs.declared.paths.Path.TheVariants.{Waits, Sorts, Inserts, Merges}
 use Rattle.rollup.specs.Accumulator.{Mem, kept_of, waiting_of, limit}
 use Rattle.rollup.specs.Header.{is_empty}
 use Rattle.rollup.specs.Taking.{After, counted, settle, path_of, all_merged, list_after, dense_after, taken_after, Shows}
@@ -30,27 +30,27 @@ module _ (a : Accumulator) (m : Mem) (x : Incoming) (row vs : List ℕ) (known :
       (λ (t : ltb bytes (limit a.precision) ≡ true) e. merged_distinct a.precision a.sparse_precision (kept_of a m) (waiting_of a m ++ vs))
       (λ (t : ltb bytes (limit a.precision) ≡ false). none_known true a.precision a.sparse_precision)
 
-  list_distinct : (path : Path) → Still (distinct_after Sparse path known) (list_after path (counted a x) m vs)
+  list_distinct : (path : Option Path) → Still (distinct_after Sparse path known) (list_after path (counted a x) m vs)
   unfolding list_after
   list_distinct None = is
-  list_distinct Waits = is
-  list_distinct Sorts = merge_distinct _
-  list_distinct Inserts = merge_distinct _
-  list_distinct Merges = merge_distinct _
+  list_distinct (Some Waits) = is
+  list_distinct (Some Sorts) = merge_distinct _
+  list_distinct (Some Inserts) = merge_distinct _
+  list_distinct (Some Merges) = merge_distinct _
 
-  taken_distinct : (f : Form) (path : Path) → path ≡ path_of f a (kept_of a m) x (length vs) → Still (distinct_after f path known) (taken_after f a m x row vs)
+  taken_distinct : (f : Form) (path : Option Path) → path ≡ path_of f a (kept_of a m) x (length vs) → Still (distinct_after f path known) (taken_after f a m x row vs)
   unfolding dense_after
   taken_distinct Unstarted path its = never
   taken_distinct Sparse path its =
       sparse_ways (Still (distinct_after Sparse path known)) a m x row vs
       (λ (t : is_empty row ≡ true).
-      subst (λ (way : Path). Still (distinct_after Sparse path known) (list_after way (counted a x) m vs)) its (list_distinct path))
+      subst (λ (way : Option Path). Still (distinct_after Sparse path known) (list_after way (counted a x) m vs)) its (list_distinct path))
       (λ (t : is_empty row ≡ false). none_known (distinct_after Sparse path known) a.precision a.sparse_precision)
   taken_distinct Dense path its = none_known known _ _
 
 -- And so of what was left.
 pub distinct_after_lem : {a : Accumulator} {m : Mem} {room : ℕ} {x : Incoming} {row vs : List ℕ} → TakePre a m room x row vs → (known : Bool)
-    → KnownDistinct known a.precision a.sparse_precision (kept_of a m) → (path : Path) → path ≡ path_of a.form a (kept_of a m) x (length vs)
+    → KnownDistinct known a.precision a.sparse_precision (kept_of a m) → (path : Option Path) → path ≡ path_of a.form a (kept_of a m) x (length vs)
     → (r : Accumulator) (n : Mem) → Shows (taken_after a.form a m x row vs) r n
     → KnownDistinct (distinct_after a.form path known) r.precision r.sparse_precision (kept_of r n)
 distinct_after_lem {a} {m} {x = x} {row = row} {vs = vs} pre known is path its r n shows =

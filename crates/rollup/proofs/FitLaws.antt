@@ -7,7 +7,8 @@ use Rattle.lists.proofs.DecodingLaws.{accepted, decode_encode}
 use Rattle.lists.proofs.MergeLaws.{length_encode}
 use Rattle.lists.proofs.RegisterLaws.{count_is}
 use Rattle.lists.specs.declared.values.Sparse.{Sparse as Encoding}
-use Rattle.lists.specs.Values.{Pair, NewPost, largest_rank}
+use Rattle.lists.specs.Values.{Pair, largest_rank}
+use Rattle.lists.specs.Pairs.{NewPost}
 use Rattle.lists.specs.Sorting.{ascends}
 use Rattle.lists.specs.Lists.{all_valid, encode_list, written}
 use Rattle.lists.specs.Registers.{register_bytes, registers_of, largest}
@@ -86,7 +87,7 @@ limit_small p h = omega (arith, pow_mono (let k : p - 2 ≤ 22 = omega arith in 
 
 pub limit_code : (p : ℕ) → p ≤ 24 → (3 * ((1 * 2 ^ (p - 2)) % 2 ^ 64) ≡ limit p) × (3 * ((1 * 2 ^ (p - 2)) % 2 ^ 64) ≤ 12582912)
 limit_code p h =
-    let e : 3 * ((1 * 2 ^ (p - 2)) % 2 ^ 64) ≡ limit p = ap (λ (k : ℕ). 3 * k) (count_is (p - 2) (let l : p - 2 ≤ 24 = omega arith in l)).0 in
+    let e : 3 * ((1 * 2 ^ (p - 2)) % 2 ^ 64) ≡ limit p = ap (λ (k : ℕ). 3 * k) (count_is 64 (p - 2) (let l : p - 2 ≤ 24 = omega arith in l) (omega arith)).0 in
     (e, omega (arith, limit_small p h))
 
 -- ---- the counts

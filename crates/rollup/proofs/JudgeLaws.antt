@@ -1,33 +1,36 @@
 -- Questions 2 to 20, taken apart: what is known of a state that was accepted, fact by fact, and each question's answer on its own.
-use Rattle.std.proofs.Common.{◌≡◌, ℕ, zero, suc, ◌+◌, ◌*◌, ◌%◌, ◌^◌, ◌<◌, ◌≤◌, Bool, true, false, cond, not, ◌&&◌, ◌||◌, eqb, leb, List, [], ◌∷◌, length, sym, refl, ap, ◌∙◌, subst, ap₂, pos_of_ne-zero, arith, eq-eqb, ne_eqb, eqb-true, le-leb, leb-true}
+use Rattle.std.proofs.Common.{◌≡◌, ℕ, zero, suc, ◌+◌, ◌*◌, ◌%◌, ◌^◌, ◌<◌, ◌≤◌, Bool, true, false, cond, not, ◌&&◌, ◌||◌, eqb, leb, List, [], ◌∷◌, length, sym, refl, ap, ◌∙◌, subst, ap₂, Result, Ok, Err, pos_of_ne-zero, arith, eq-eqb, ne_eqb, eqb-true, le-leb, leb-true}
 use mathlib.Core.Option.{Option, none, some}
 use borrow.Author.Tests.{lt-leb, eqb-false, not-true, not-false}
 use Rattle.wire.proofs.BoolLaws.{both, both_true, said_yes, said_no}
 use Rattle.wire.proofs.BoundLaws.{sparse_data_within, read_number}
 use Rattle.wire.specs.Reading.{Read, got, refused, and_then}
-use Rattle.wire.specs.State.{HllState, State, bytes_or_none, state_of, read_state, when_present, parsed_means, ParsePost}
+use Rattle.wire.specs.State.{HllState, State, bytes_or_none, state_of, read_state, when_present, HllInside}
 use Rattle.wire.specs.Layout.{CutReading, cut_refused, cut_before_hll}
-use Rattle.wire.specs.declared.state.Fields.{Fields}
-use Rattle.wire.specs.declared.state.Parsed.{Parsed}
-use Rattle.wire.specs.declared.state.Parsed.TheVariants.{Read as StateRead, Refused as StateRefused}
-use Rattle.lists.specs.Values.{Pair, NewPost, largest_rank}
-use Rattle.lists.specs.Lists.{decode_of, Decodes}
+use Rattle.wire.specs.declared.view.StateView.{StateView}
+use Rattle.lists.specs.Values.{Pair, largest_rank}
+use Rattle.lists.specs.Pairs.{NewPost}
+use Rattle.lists.specs.Lists.{decode_of}
 use Rattle.lists.specs.Registers.{register_bytes, registers_of, largest, Holds}
 use Rattle.lists.specs.declared.values.Sparse.{Sparse as Encoding}
-use Rattle.lists.specs.declared.decoding.Decoded.{Decoded}
-use Rattle.lists.specs.declared.decoding.Decoded.TheVariants.{Done}
 use Rattle.lists.proofs.RankLaws.{largest_least}
 use Rattle.lists.proofs.RegisterLaws.{count_is, row_holds, row_registers}
 use Rattle.lists.proofs.DecodingLaws.{decode_none}
 use Rattle.rollup.specs.declared.accumulator.Form.{Form}
 use Rattle.rollup.specs.declared.accumulator.Form.TheVariants.{Unstarted, Sparse, Dense}
 use Rattle.rollup.specs.declared.accumulator.Accumulator.{Accumulator}
-use Rattle.rollup.specs.declared.judging.Judged.{Judged}
-use Rattle.rollup.specs.declared.judging.Judged.TheVariants.{State as JudgedState, Refused}
+use Rattle.rollup.specs.declared.refusal.Refusal.{Refusal}
+use Rattle.rollup.specs.declared.refusal.Refusal.TheVariants.{TooLong, Unread}
+use Rattle.rollup.specs.Refusals.{number}
+use Rattle.wire.specs.View.{ViewPost}
+use Rattle.lists.specs.Lists.{Decodes}
+use Rattle.wire.specs.declared.read_error.ReadError.{ReadError}
+use Rattle.lists.specs.declared.decoding.DecodeError.{DecodeError}
+use Rattle.rollup.proofs.RefusalLaws.{number_some}
 use Rattle.rollup.specs.Accumulator.{Mem, normal_range, sparse_range}
-use Rattle.rollup.specs.Header.{ask, first_no, data_of, list_of, is_empty, is_value_type, mask_of, state_type, state_version, kind_answer, list_has_precision, data_has_length, needs_pair, pair_in_range, structure_answer, registers_in_range, header_answer, passing, read_header}
+use Rattle.rollup.specs.Header.{viewed, ask, first_no, data_of, list_of, is_empty, is_value_type, mask_of, state_type, state_version, kind_answer, list_has_precision, data_has_length, needs_pair, pair_in_range, structure_answer, registers_in_range, header_answer, passing, read_header}
 use Rattle.rollup.specs.Adding.{masks_meet, has_field, has_both, same_pair, carried, match_answer, judge, judge_answer, wanted_precision, wanted_registers, wanted_cells, has_room, listed_in}
-use Rattle.rollup.specs.Judging.{judged_means, JudgedInside, HeaderPost, JudgePost, parsed_refusal, RoomPre, ListedPre}
+use Rattle.rollup.specs.Judging.{judged_means, JudgedInside, HeaderPost, JudgePost, RoomPre, ListedPre}
 use Rattle.rollup.proofs.FitLaws.{both_yes, both_no, above_zero, range_of, ranges_pair, fit_sparse, fit_dense, fit_short}
 
 -- ---- Bools
@@ -183,7 +186,7 @@ sized_none d l n e h = either_yes _ (empty_yes l (sym (ap length e) ∙ h))
 pub sized_some : (d l : List ℕ) (p : ℕ) → p ≤ 24 → d ≡ l → (length d ≡ 0 → ⊥)
     → eqb (length d) ((1 * 2 ^ p) % 2 ^ 64) ≡ is_empty l || eqb (length l) (2 ^ p)
 sized_some d l p k e h =
-    ap (λ (n : ℕ). eqb (length d) n) (count_is p k).0 ∙ ap (λ (x : List ℕ). eqb (length x) (2 ^ p)) e
+    ap (λ (n : ℕ). eqb (length d) n) (count_is 64 p k (omega arith)).0 ∙ ap (λ (x : List ℕ). eqb (length x) (2 ^ p)) e
     ∙ either_no (eqb (length l) (2 ^ p)) (empty_no l (λ (z : length l ≡ 0). h (ap length e ∙ z)))
 
 -- Whether 13 is asked, of a state without list bytes.
@@ -268,7 +271,7 @@ module _ (st : State) (e : structure_answer st ≡ 0) where
 -- ---- 2 to 14
 
 module _ (s : List ℕ) where
-  pub read_2 : 2147483647 < length s → HeaderPost s (Refused 2)
+  pub read_2 : 2147483647 < length s → HeaderPost s (Err TooLong)
   unfolding read_header
   read_2 h =
       record {
@@ -283,22 +286,20 @@ module _ (s : List ℕ) where
     read_is x e =
         ap₂ (λ (b : Bool) (y : Read State). cond b (and_then y (λ st nothing. passing (header_answer st) st)) (refused 2)) (le-leb (length s) 2147483647 h) e
 
-    pub read_refused : (n k : ℕ) (r : Parsed) → r ≡ StateRefused k → ParsePost s r → n ≡ parsed_refusal r → HeaderPost s (Refused n)
-    read_refused n k r e p f =
-        record {
-          answer = ap refused (f ∙ ap parsed_refusal e) ∙ sym (read_is (refused k) (sym p.answer ∙ ap (parsed_means s) e));
-          inside = tt;
-        }
+    pub read_refused : (e : ReadError) → ViewPost s (Err e) → HeaderPost s (Err (Unread e))
+    read_refused e p = record { answer = sym (read_is (refused (number (Unread e))) (sym p.answer)); inside = tt }
 
-    module _ (f : Fields) (p : ParsePost s (StateRead f)) (n : ℕ) (e : n ≡ header_answer (state_of s f)) where
-      read_answered : passing n (state_of s f) ≡ read_header s
-      read_answered = ap (λ (k : ℕ). passing k (state_of s f)) e ∙ sym (read_is (got (state_of s f) []) (sym p.answer))
+    module _ (v : StateView) (p : ViewPost s (Ok v)) (same : v.bytes.now ≡ s) where
+      read_answered : (n : ℕ) → n ≡ header_answer (viewed v) → passing n (viewed v) ≡ read_header s
+      read_answered n e =
+          ap (λ (k : ℕ). passing k (viewed v)) e
+          ∙ sym (read_is (got (viewed v) []) (sym p.answer ∙ ap (λ (l : List ℕ). got (state_of l v.fields) []) (sym same)))
 
-      pub read_no : (n ≡ 0 → ⊥) → HeaderPost s (Refused n)
-      read_no z = record { answer = sym (pass_no n (state_of s f) z) ∙ read_answered; inside = tt }
+      pub read_no : (e : Refusal) → number e ≡ header_answer (viewed v) → HeaderPost s (Err e)
+      read_no e f = record { answer = sym (pass_no (number e) (viewed v) (number_some e)) ∙ read_answered (number e) f; inside = tt }
 
-      pub read_yes : n ≡ 0 → HeaderPost s (JudgedState f)
-      read_yes z = record { answer = sym (pass_yes n (state_of s f) z) ∙ read_answered; inside = p.inside }
+      pub read_yes : 0 ≡ header_answer (viewed v) → HeaderPost s (Ok v)
+      read_yes f = record { answer = sym (pass_yes 0 (viewed v) refl) ∙ read_answered 0 f; inside = p.inside }
 
 -- What a state that passed them was.
 pub record HeaderRead (bytes : List ℕ) (st : State) : Type 0 where
@@ -362,23 +363,23 @@ module _ (a : Accumulator) (st : State) where
 
 -- ---- 2 to 16
 
-module _ (a : Accumulator) (s : List ℕ) (r : Judged) (post : HeaderPost s r) where
-  judge_is : (x : Judged) → r ≡ x → judge a s ≡ and_then (judged_means s x) (λ st nothing. passing (match_answer a st) st)
+module _ (a : Accumulator) (s : List ℕ) where
+  judge_is : (r : Result StateView Refusal) → HeaderPost s r → judge a s ≡ and_then (judged_means r) (λ st nothing. passing (match_answer a st) st)
   unfolding judge
-  judge_is x e = ap (λ (y : Read State). and_then y (λ st nothing. passing (match_answer a st) st)) (sym post.answer ∙ ap (judged_means s) e)
+  judge_is r post = ap (λ (y : Read State). and_then y (λ st nothing. passing (match_answer a st) st)) (sym post.answer)
 
-  pub judge_refused : (k : ℕ) → r ≡ Refused k → JudgePost a s r
-  judge_refused k e = record { answer = ap (judged_means s) e ∙ sym (judge_is (Refused k) e); inside = post.inside }
+  pub judge_refused : (e : Refusal) → HeaderPost s (Err e) → JudgePost a s (Err e)
+  judge_refused e post = record { answer = sym (judge_is (Err e) post); inside = tt }
 
-  module _ (f : Fields) (e : r ≡ JudgedState f) (n : ℕ) (g : n ≡ match_answer a (state_of s f)) where
-    judge_answered : passing n (state_of s f) ≡ judge a s
-    judge_answered = ap (λ (k : ℕ). passing k (state_of s f)) g ∙ sym (judge_is (JudgedState f) e)
+  module _ (v : StateView) (post : HeaderPost s (Ok v)) where
+    judge_answered : (n : ℕ) → n ≡ match_answer a (viewed v) → passing n (viewed v) ≡ judge a s
+    judge_answered n g = ap (λ (k : ℕ). passing k (viewed v)) g ∙ sym (judge_is (Ok v) post)
 
-    pub judge_no : (n ≡ 0 → ⊥) → JudgePost a s (Refused n)
-    judge_no z = record { answer = sym (pass_no n (state_of s f) z) ∙ judge_answered; inside = tt }
+    pub judge_no : (e : Refusal) → number e ≡ match_answer a (viewed v) → JudgePost a s (Err e)
+    judge_no e g = record { answer = sym (pass_no (number e) (viewed v) (number_some e)) ∙ judge_answered (number e) g; inside = tt }
 
-    pub judge_yes : n ≡ 0 → JudgePost a s (JudgedState f)
-    judge_yes z = record { answer = sym (pass_yes n (state_of s f) z) ∙ judge_answered; inside = subst (JudgedInside s) e post.inside }
+    pub judge_yes : 0 ≡ match_answer a (viewed v) → JudgePost a s (Ok v)
+    judge_yes g = record { answer = sym (pass_yes 0 (viewed v) refl) ∙ judge_answered 0 g; inside = post.inside }
 
 -- What a state that passed them was, and that one that did not has a number above 0.
 pub record JudgedRead (a : Accumulator) (bytes : List ℕ) (st : State) : Type 0 where
@@ -408,18 +409,15 @@ pub list_short : (a : Accumulator) (bytes : List ℕ) (st : State) → JudgedRea
 list_short a bytes st x = omega (arith, sparse_data_within bytes st x.header.rest x.header.read, x.header.short)
 
 -- The same of what `judge` answered.
-module _ (a : Accumulator) (s : List ℕ) (f : Fields) (post : JudgePost a s (JudgedState f)) where
-  judged_read : JudgedRead a s (state_of s f)
-  judged_read = judge_got a s (state_of s f) [] (sym post.answer)
+module _ (a : Accumulator) (s : List ℕ) (v : StateView) (post : JudgePost a s (Ok v)) where
+  judged_read : JudgedRead a s (viewed v)
+  judged_read = judge_got a s (viewed v) [] (sym post.answer)
 
-  pub judged_state : judge_answer a (state_of s f) ≡ 0
+  pub judged_state : judge_answer a (viewed v) ≡ 0
   judged_state = judged_read.judged
 
-  pub judged_short : length (list_of (state_of s f)) ≤ 2147483647
-  judged_short = list_short a s (state_of s f) judged_read
-
-pub judged_no : (a : Accumulator) (s : List ℕ) (n : ℕ) → JudgePost a s (Refused n) → judge a s ≡ refused n
-judged_no a s n post = sym post.answer
+  pub judged_short : length (list_of (viewed v)) ≤ 2147483647
+  judged_short = list_short a s (viewed v) judged_read
 
 -- ---- what is known of a state that was judged and accepted
 
@@ -569,14 +567,14 @@ none_is [] e = refl
 none_is (x ∷ l) e = absurd (let z : ⊥ = omega arith in z)
 
 module _ (st : State) (d out : List ℕ) (same : d ≡ list_of st) where
-  pub listed_none : length d ≡ 0 → Decodes (listed_in st) (Done 0) out
+  pub listed_none : length d ≡ 0 → Decodes (listed_in st) (Ok 0) out
   listed_none z =
-      subst (λ (r : Read (List ℕ)). Decodes r (Done 0) out)
+      subst (λ (r : Read (List ℕ)). Decodes r (Ok 0) out)
       (sym (ap (decode_of st.hll.precision st.hll.sparse_precision) (sym same ∙ none_is d z)
       ∙ decode_none st.hll.precision st.hll.sparse_precision))
       (refl, refl)
 
-  pub listed_some : (enc : Encoding) (r : Decoded) → NewPost st.hll.precision st.hll.sparse_precision enc
+  pub listed_some : (enc : Encoding) (r : Result ℕ DecodeError) → NewPost st.hll.precision st.hll.sparse_precision enc
       → Decodes (decode_of enc.normal_precision enc.sparse_precision d) r out → Decodes (listed_in st) r out
   listed_some enc r n x =
       subst (λ (v : Read (List ℕ)). Decodes v r out)

@@ -20,7 +20,6 @@ use Rattle.rollup.specs.Accumulator.{Mem, mem, kept_of, waiting_of, limit, max_p
 use Rattle.rollup.specs.Header.{is_empty}
 use Rattle.rollup.specs.Adding.{refuse, wanted_precision}
 use Rattle.rollup.specs.Stages.{TakePre}
-use Rattle.rollup.specs.declared.writing.Written.{Written}
 use Rattle.rollup.specs.Writing.{WritePost}
 use Rattle.rollup.specs.Taking.{After, unchanged, counted, densed, start_list, start_dense, start_after, as_list, settle, waits, inserts, list_path, all_merged, as_waiting, list_after, row_taken, sparse_after, signed_key, raised_to, dense_after, taken_after, Shows}
 use Rattle.rollup.proofs.FitLaws.{limit_small, NoLists, FitSparse, FitDense, fit_none, fit_none_back, fit_sparse, fit_sparse_back, fit_dense, fit_dense_back}
@@ -393,6 +392,6 @@ module _ (a : Accumulator) (m : Mem) (fit : fits a m ≡ true) (answer : ℕ) (r
 -- ---- writing
 
 -- A write leaves a head that fits, whether it was refused or not: the values that wait may stand in another order, the rest is the same.
-pub write_keeps : (a : Accumulator) (m : Mem) (room : ℕ) (out : List ℕ) (r : Written) (n : Mem) (after : List ℕ) → fits a m ≡ true
-    → WritePost a m room out r n after → fits a n ≡ true
-write_keeps a m room out r n after fit post = refused_keeps a m fit r.answer a n post.same
+pub write_keeps : (a : Accumulator) (m : Mem) (room : ℕ) (out : List ℕ) (answer len : ℕ) (n : Mem) (after : List ℕ) → fits a m ≡ true
+    → WritePost a m room out answer len n after → fits a n ≡ true
+write_keeps a m room out answer len n after fit post = refused_keeps a m fit answer a n post.same

@@ -3,6 +3,8 @@ pub mod StartLaws
 pub mod DenseLaws
 pub mod AddLaws
 pub mod FitLaws
+pub mod LentLaws
+pub mod RefusalLaws
 pub mod JudgeLaws
 pub mod TakeLaws
 pub mod PathLaws

@@ -1,5 +1,5 @@
 -- The choice of a path: the answers of its tests, one after the other, and what a path tells of them.
-use Rattle.std.proofs.Common.{◌≡◌, ℕ, ◌+◌, ◌*◌, ◌<◌, ◌≤◌, Bool, true, false, cond, not, ◌&&◌, eqb, leb, List, sym, refl, ap, ◌∙◌, pos_of_ne-zero, arith, le-ltb, lt-ltb, eq-eqb, ne_eqb, eqb-true, le-leb}
+use Rattle.std.proofs.Common.{◌≡◌, ℕ, ◌+◌, ◌*◌, ◌<◌, ◌≤◌, Bool, true, false, cond, not, ◌&&◌, eqb, leb, List, sym, refl, ap, ◌∙◌, pos_of_ne-zero, arith, le-ltb, lt-ltb, eq-eqb, ne_eqb, eqb-true, le-leb, Option, Some, None}
 use borrow.Author.Tests.{lt-leb, not-false}
 use Rattle.wire.proofs.BoolLaws.{both_true, never}
 use Rattle.lists.specs.Lists.{distinct_slots}
@@ -7,7 +7,7 @@ use Rattle.rollup.specs.declared.accumulator.Form.{Form}
 use Rattle.rollup.specs.declared.accumulator.Accumulator.{Accumulator}
 use Rattle.rollup.specs.declared.incoming.Incoming.{Incoming}
 use Rattle.rollup.specs.declared.paths.Path.{Path}
-use Rattle.rollup.specs.declared.paths.Path.TheVariants.{None, Waits, Sorts, Inserts, Merges}
+use Rattle.rollup.specs.declared.paths.Path.TheVariants.{Waits, Sorts, Inserts, Merges}
 use Rattle.rollup.specs.Accumulator.{limit, waiting_bound}
 use Rattle.rollup.specs.Taking.{waits, inserts, list_path, path_of}
 
@@ -47,22 +47,19 @@ module _ (a : Accumulator) (kept : List ℕ) (k : ℕ) where
 -- ---- the path
 
 -- By the answers: are there no values, do they wait, do others wait, are they inserted?
-abbrev chosen : (none wait others insert : Bool) → Path
-chosen none wait others insert = cond none None (cond wait Waits (cond others Sorts (cond insert Inserts Merges)))
+abbrev chosen : (none wait others insert : Bool) → Option Path
+chosen none wait others insert = cond none None (cond wait (Some Waits) (cond others (Some Sorts) (cond insert (Some Inserts) (Some Merges))))
 
-abbrev pub is_some : Path → Bool
+abbrev pub is_some : Option Path → Bool
 is_some None = false
-is_some Waits = true
-is_some Sorts = true
-is_some Inserts = true
-is_some Merges = true
+is_some (Some p) = true
 
-abbrev is_insertion : Path → Bool
+abbrev is_insertion : Option Path → Bool
 is_insertion None = false
-is_insertion Waits = false
-is_insertion Sorts = false
-is_insertion Inserts = true
-is_insertion Merges = false
+is_insertion (Some Waits) = false
+is_insertion (Some Sorts) = false
+is_insertion (Some Inserts) = true
+is_insertion (Some Merges) = false
 
 insertion : (none wait others insert : Bool) → is_insertion (chosen none wait others insert) ≡ true → (others ≡ false) × (insert ≡ true)
 insertion true wait others insert e = never e
@@ -87,26 +84,26 @@ module _ (a : Accumulator) (kept : List ℕ) (x : Incoming) (k : ℕ) where
         ap (λ (b : Bool). chosen false b others_wait (inserts a kept k)) e
         ∙ sym (ap (λ (b : Bool). chosen b (waits a x k) others_wait (inserts a kept k)) (ne_eqb k 0 n))
 
-    pub path_waits : waits a x k ≡ true → Waits ≡ list_path a kept x k
+    pub path_waits : waits a x k ≡ true → (Some Waits) ≡ list_path a kept x k
     path_waits e = path_rest true (sym e)
 
-    pub path_sorts : waits a x k ≡ false → (a.pending_len ≡ 0 → ⊥) → Sorts ≡ list_path a kept x k
+    pub path_sorts : waits a x k ≡ false → (a.pending_len ≡ 0 → ⊥) → (Some Sorts) ≡ list_path a kept x k
     path_sorts e m =
         sym (ap (λ (b : Bool). chosen false false (not b) (inserts a kept k)) (ne_eqb a.pending_len 0 m)) ∙ path_rest false (sym e)
 
     -- None wait: they are inserted, or merged.
-    pub path_last : waits a x k ≡ false → a.pending_len ≡ 0 → (t : Bool) → inserts a kept k ≡ t → cond t Inserts Merges ≡ list_path a kept x k
+    pub path_last : waits a x k ≡ false → a.pending_len ≡ 0 → (t : Bool) → inserts a kept k ≡ t → cond t (Some Inserts) (Some Merges) ≡ list_path a kept x k
     path_last e z t f =
-        ap (λ (b : Bool). cond b Inserts Merges) (sym f)
+        ap (λ (b : Bool). cond b (Some Inserts) (Some Merges)) (sym f)
         ∙ sym (ap (λ (b : Bool). chosen false false (not b) (inserts a kept k)) (eq-eqb a.pending_len 0 z))
         ∙ path_rest false (sym e)
 
   -- Where there is a path there are values.
-  pub path_some : (q : Path) → q ≡ list_path a kept x k → is_some q ≡ true → 0 < k
+  pub path_some : (q : Option Path) → q ≡ list_path a kept x k → is_some q ≡ true → 0 < k
   path_some q e f = pos_of_ne-zero (λ (z : k ≡ 0). never (ap is_some (path_none z ∙ sym e) ∙ f))
 
   -- An insertion comes to a list that a merge can leave, and none wait.
-  pub path_inserts : Inserts ≡ list_path a kept x k → (a.pending_len ≡ 0) × (distinct_slots a.precision a.sparse_precision kept ≡ true)
+  pub path_inserts : (Some Inserts) ≡ list_path a kept x k → (a.pending_len ≡ 0) × (distinct_slots a.precision a.sparse_precision kept ≡ true)
   path_inserts e =
       let t = insertion (eqb k 0) (waits a x k) others_wait (inserts a kept k) (ap is_insertion (sym e)) in (
         eqb-true a.pending_len 0 (not-false (eqb a.pending_len 0) t.0),

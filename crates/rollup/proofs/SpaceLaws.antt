@@ -7,7 +7,6 @@ use Rattle.rollup.specs.declared.accumulator.Form.{Form}
 use Rattle.rollup.specs.declared.accumulator.Form.TheVariants.{Unstarted, Sparse, Dense}
 use Rattle.rollup.specs.declared.accumulator.Accumulator.{Accumulator}
 use Rattle.rollup.specs.declared.incoming.Incoming.{Incoming}
-use Rattle.rollup.specs.declared.adding.Added.{Added}
 use Rattle.rollup.specs.Accumulator.{Mem, kept_of, limit, fits, is_started}
 use Rattle.rollup.specs.Header.{data_of, is_empty}
 use Rattle.rollup.specs.Adding.{state_numbers, wanted_precision, AddPost}
@@ -53,19 +52,19 @@ space_same : (a : Accumulator) (m : Mem) (r : Accumulator) (n : Mem) → r ≡ a
 space_same a m r n e f s =
     subst (λ (h : Accumulator). Space h n) (sym e) (λ (t : is_started a.form ≡ true). subst (λ (k : ℕ). register_bytes a.precision ≤ k) (sym f) (s t))
 
-add_space : (a : Accumulator) (m : Mem) (room : ℕ) (bytes : List ℕ) (r : Added) (n : Mem) → fits a m ≡ true → AddPost a m room bytes r n → Space a m
-    → Space r.head n
-add_space a m room bytes r n fit post s =
-    ⊎_elim (λ (x : IsRefused a m r n). space_same a m r.head n x.same.head post.free.registers s)
-    (λ (x : IsAccepted a m room bytes r n) (t : is_started r.head.form ≡ true).
+add_space : (a : Accumulator) (m : Mem) (room : ℕ) (bytes : List ℕ) (answer : ℕ) (head : Accumulator) (n : Mem) → fits a m ≡ true → AddPost a m room bytes answer head n → Space a m
+    → Space head n
+add_space a m room bytes answer head n fit post s =
+    ⊎_elim (λ (x : IsRefused a m answer head n). space_same a m head n x.same.head post.free.registers s)
+    (λ (x : IsAccepted a m room bytes answer head n) (t : is_started head.form ≡ true).
     let st = state_in bytes in
     let vs = values_in st in
     let wanted = wanted_precision a.form a st.hll.precision in
-    let low : r.head.precision ≤ wanted =
+    let low : head.precision ≤ wanted =
     subst (λ (h : Accumulator). h.precision ≤ wanted) (sym x.shows.head) (taken_within a m (state_numbers st vs) (data_of st) vs a.form) in
     let room_in : register_bytes wanted ≤ length n.registers =
     subst (λ (k : ℕ). register_bytes wanted ≤ k) (sym post.free.registers) (ready_takes x.ready).in_registers in
-    le_trans (fewer_bytes r.head.precision wanted low) room_in) (add_view a m room bytes r n fit post)
+    le_trans (fewer_bytes head.precision wanted low) room_in) (add_view a m room bytes answer head n fit post)
 
 -- As many register bytes as at the start, and room for the registers.
 pub record Spacious (m₀ : Mem) (a : Accumulator) (m : Mem) : Type 0 where
@@ -76,10 +75,10 @@ pub steps_spacious : {a₀ : Accumulator} {m₀ : Mem} {calls : List Call} {a : 
     → Space a₀ m₀ → Spacious m₀ a m
 unfolding Unmoved
 steps_spacious begun u fit s = record { same = refl; space = s }
-steps_spacious (adding {a = a} {m = m} room bytes r n steps post) u fit s =
+steps_spacious (adding {a = a} {m = m} room bytes answer head n steps post) u fit s =
     let before = steps_spacious steps u fit s in
-    record { same = post.free.registers ∙ before.same; space = add_space a m room bytes r n (steps_fit steps fit) post before.space }
-steps_spacious (writing {a = a} {m = m} room out r n after steps post) u fit s =
+    record { same = post.free.registers ∙ before.same; space = add_space a m room bytes answer head n (steps_fit steps fit) post before.space }
+steps_spacious (writing {a = a} {m = m} room out answer len n after steps post) u fit s =
     let before = steps_spacious steps u fit s in
     let same = ap length post.same.registers in
     record { same = same ∙ before.same; space = space_same a m a n refl same before.space }

@@ -1,13 +1,15 @@
 -- The paths of a list roll-up: what the calls of each function leave is what the definitions have.
-use Rattle.std.proofs.Common.{◌≡◌, ℕ, ◌+◌, ◌-◌, ◌^◌, ◌<◌, ◌≤◌, Bool, true, cond, ◌⊎◌, List, [], ◌++◌, length, take, sym, refl, ap, ◌∙◌, subst, ap₂, ⊎_elim, pos_of_ne-zero, arith, length-append, length-take, length-take-le, take_at, le-ltb, lt-ltb, eq-eqb, ne_eqb}
+use Rattle.std.proofs.Common.{◌≡◌, ℕ, ◌+◌, ◌-◌, ◌^◌, ◌<◌, ◌≤◌, Bool, true, cond, ◌⊎◌, List, [], ◌++◌, length, take, sym, refl, ap, ◌∙◌, zero-add, subst, ap₂, ⊎_elim, pos_of_ne-zero, arith, length-append, length-take, length-take-le, take_at, le-ltb, lt-ltb, eq-eqb, ne_eqb, Option, Some, None}
 use mathlib.Core.List.Permᴰ
 use mathlib.Core.List.{Permᴰ}
 use native.Mathlib.Nat.{min-le_left}
 use lib.ListN.{length-replicate}
+use borrow.Rule.Slice.PartMut.{put_mid}
+use Rattle.std.proofs.lemmas.Slice.{take-put_mid}
 use Rattle.wire.proofs.VarintLaws.{side}
 use Rattle.lists.specs.declared.values.Sparse.{Sparse as Encoding}
 use Rattle.lists.specs.declared.merging.Merged.{Merged}
-use Rattle.lists.specs.Values.{SparseFits, NewPost}
+use Rattle.lists.specs.Pairs.{NewPost}
 use Rattle.lists.specs.Sorting.{ascends, sort_of}
 use Rattle.lists.specs.Lists.{all_valid, written, merged, distinct_slots, MergePost, InsertPre, InsertPost}
 use Rattle.lists.specs.Merging.{MergePre}
@@ -21,9 +23,9 @@ use Rattle.rollup.specs.declared.accumulator.Form.TheVariants.{Sparse}
 use Rattle.rollup.specs.declared.accumulator.Accumulator.{Accumulator}
 use Rattle.rollup.specs.declared.incoming.Incoming.{Incoming}
 use Rattle.rollup.specs.declared.paths.Path.{Path}
-use Rattle.rollup.specs.declared.paths.Path.TheVariants.{None, Waits, Sorts, Inserts, Merges}
+use Rattle.rollup.specs.declared.paths.Path.TheVariants.{Waits, Sorts, Inserts, Merges}
 use Rattle.rollup.specs.Accumulator.{Mem, mem, kept_of, waiting_of, limit}
-use Rattle.rollup.specs.Taking.{After, common_mask, sum_count, counted, with_list, densed, as_list, as_dense, settle, list_path, all_merged, list_after, row_taken, sparse_after, Shows}
+use Rattle.rollup.specs.Taking.{After, common_mask, sum_count, counted, with_list, densed, as_list, as_dense, settle, list_path, all_merged, as_waiting, list_after, row_taken, sparse_after, Shows}
 use Rattle.rollup.specs.Adding.{wanted_precision}
 use Rattle.rollup.specs.Stages.{SettlePre, Leaves, BackPre, JoinPre, ListReady, ListRoom, MergeInPre, InsertInPre, DensifyPre, TakingPre}
 use Rattle.rollup.proofs.FitLaws.{FitSparse, fit_sparse, counts_short}
@@ -107,16 +109,15 @@ module _ (h : Accumulator) (registers l : List ℕ) (bytes : ℕ) where
   unfolding settle
   settle_high e = ap (λ (b : Bool). cond b (as_list h registers l bytes) (as_dense h registers l)) (le-ltb _ _ e)
 
-  pub settle_list : (top : ℕ) (r : Accumulator) → top ≡ limit h.precision → bytes < top → r ≡ with_list h (length l) (length l) bytes 0
-      → Leaves (settle h registers l bytes) r registers
-  settle_list top r t e f =
-      subst (λ (x : After). Leaves x r registers) (sym (settle_low (let g : bytes < limit h.precision = omega arith in g)))
-      (record { head = f; registers_left = refl })
+  pub settle_list : {top n : ℕ} → top ≡ limit h.precision → bytes < top → length l ≡ n → Leaves (settle h registers l bytes) (with_list h n n bytes 0) registers
+  settle_list {top} {n} t e f =
+      subst (λ (x : After). Leaves x (with_list h n n bytes 0) registers) (sym (settle_low (let g : bytes < limit h.precision = omega arith in g)))
+      (record { head = ap (λ (k : ℕ). with_list h k k bytes 0) (sym f); registers_left = refl })
 
-  pub settle_dense : (top : ℕ) (r : Accumulator) (after : List ℕ) → top ≡ limit h.precision → top ≤ bytes → r ≡ densed h
+  pub settle_dense : {top : ℕ} {r : Accumulator} {after : List ℕ} → top ≡ limit h.precision → top ≤ bytes → r ≡ densed h
       → after ≡ with_registers h.precision (raised_by h.precision h.sparse_precision (zeros h.precision) l) registers
       → Leaves (settle h registers l bytes) r after
-  settle_dense top r after t e f g =
+  settle_dense {top} {r} {after} t e f g =
       subst (λ (x : After). Leaves x r after) (sym (settle_high (let k : limit h.precision ≤ bytes = omega arith in k)))
       (record { head = f; registers_left = g })
 
@@ -150,12 +151,6 @@ module _ (h : Accumulator) (registers l : List ℕ) (bytes : ℕ) where
       none_wait : (r : Accumulator) (pending : List ℕ) → r.pending_len ≡ 0 → Permᴰ (take r.pending_len pending) []
       none_wait r pending z = subst (λ (k : ℕ). Permᴰ (take k pending) []) (sym z) (Permᴰ.refl [])
 
--- ---- copies
-
--- A copy from the start of a list.
-pub copied : (w k r : ℕ) (front after : List ℕ) → r ≡ w + (k - 0) → take r after ≡ front → take (w + k) after ≡ front
-copied w k r front after e f = ap (λ (n : ℕ). take n after) (let g : w + k ≡ r = omega arith in g) ∙ f
-
 -- ---- merges
 
 module _ (p s : ℕ) where
@@ -167,10 +162,10 @@ module _ (p s : ℕ) where
       record { count = m.count ∙ ap length e; bytes = m.bytes ∙ ap written e; values = m.values ∙ e }
 
   -- The merge was copied from one place to another.
-  pub merge_copied : (a b : List ℕ) (r : Merged) (from to : List ℕ) (n : ℕ) → n ≡ 0 + (r.len - 0) → take n to ≡ take r.len from
+  pub merge_copied : (a b : List ℕ) (r : Merged) (from before to : List ℕ) → take (0 + r.len) to ≡ take 0 before ++ take r.len from
       → MergePost p s a b r from → MergePost p s a b r to
-  merge_copied a b r from to n e f m =
-      record { count = m.count; bytes = m.bytes; values = ap (λ (k : ℕ). take k to) (let g : r.len ≡ n = omega arith in g) ∙ f ∙ m.values }
+  merge_copied a b r from before to f m =
+      record { count = m.count; bytes = m.bytes; values = ap (λ (k : ℕ). take k to) (sym (zero-add r.len)) ∙ f ∙ m.values }
 
 -- Values that were put in order, in place, and the merge of them and of those kept.
 module _ (vs ordered tail : List ℕ) (n : ℕ) (long : length vs ≡ n) (e : ordered ≡ sort_of vs) where
@@ -178,13 +173,12 @@ module _ (vs ordered tail : List ℕ) (n : ℕ) (long : length vs ≡ n) (e : or
   sorted_front = take_at ordered tail n (ap length e ∙ length_sort vs ∙ long) ∙ e
 
   module _ (enc : Encoding) (kept : List ℕ) where
-    pub sorted_merge : (spare : List ℕ) → SparseFits enc → ascends kept ≡ true → all_valid enc.normal_precision enc.sparse_precision kept ≡ true
+    pub sorted_merge : (spare : List ℕ) → ascends kept ≡ true → all_valid enc.normal_precision enc.sparse_precision kept ≡ true
         → all_valid enc.normal_precision enc.sparse_precision vs ≡ true → length kept + n ≤ length spare → MergePre enc kept (take n (ordered ++ tail)) spare
-    sorted_merge spare fits order ok new room =
+    sorted_merge spare order ok new room =
         let p = enc.normal_precision in
         let s = enc.sparse_precision in
         record {
-          fits = fits;
           left_order = order;
           left_valid = ok;
           right_order = ap ascends sorted_front ∙ ascends_sort vs;
@@ -199,7 +193,7 @@ module _ (vs ordered tail : List ℕ) (n : ℕ) (long : length vs ≡ n) (e : or
         let s = enc.sparse_precision in
         merge_post p s kept (take n (ordered ++ tail)) vs r after (ap (merged p s kept) sorted_front ∙ merged_sort p s kept vs) m
 
-module _ (enc : Encoding) (sparse : List ℕ) (n : ℕ) (incoming scratch : List ℕ) (pre : BackPre enc sparse n incoming scratch) (r : Merged) (after : List ℕ)
+module _ {enc : Encoding} {sparse : List ℕ} {n : ℕ} {incoming scratch : List ℕ} (pre : BackPre enc sparse n incoming scratch) {r : Merged} {after : List ℕ}
     (post : MergePost enc.normal_precision enc.sparse_precision (take n sparse) incoming r after) where
   pub back_fits : r.len ≤ n + length incoming
   back_fits =
@@ -219,47 +213,47 @@ module _ (enc : Encoding) (sparse : List ℕ) (n : ℕ) (incoming scratch : List
         length-take-le n sparse (let h : n ≤ length sparse = omega (arith, pre.room) in h),
       )
 
-module _ (enc : Encoding) (sparse : List ℕ) (n : ℕ) (pending : List ℕ) (w : ℕ) (scratch : List ℕ) (k : ℕ) (pre : JoinPre enc sparse n pending w scratch k) where
+module _ {enc : Encoding} {sparse : List ℕ} {n : ℕ} {pending : List ℕ} {w : ℕ} {scratch : List ℕ} {k : ℕ} (pre : JoinPre enc sparse n pending w scratch k) where
   -- The values that come in were copied after those that wait.
-  module _ (all : ℕ) (first : List ℕ) (e : all ≡ w + (k - 0)) (f : take all first ≡ take w pending ++ take k scratch) where
-    pub joined_length : length (take all first) ≡ w + k
+  module _ (first : List ℕ) (f : take (w + k) first ≡ take w pending ++ take k scratch) where
+    pub joined_length : length (take (w + k) first) ≡ w + k
     joined_length =
         ap length f
         ∙ length-append (take w pending) (take k scratch)
         ∙ ap₂ (λ (x y : ℕ). x + y) (length-take-le w pending (let h : w ≤ length pending = omega (arith, pre.in_pending) in h))
         (length-take-le k scratch (let h : k ≤ length scratch = omega (arith, pre.in_scratch) in h))
 
-    pub joined_order : w ≡ 0 → ascends (take all first) ≡ true
+    pub joined_order : w ≡ 0 → ascends (take (w + k) first) ≡ true
     joined_order z = ap ascends (f ∙ ap (λ (x : ℕ). take x pending ++ take k scratch) z) ∙ pre.incoming_order
 
     -- They were put in order, in place.
-    module _ (ordered tail : List ℕ) (g : ordered ≡ sort_of (take all first)) where
+    module _ {ordered : List ℕ} (tail : List ℕ) (g : ordered ≡ sort_of (take (w + k) first)) where
       abbrev both : List ℕ
       both = take w pending ++ take k scratch
 
-      both_length : length both ≡ all
-      both_length = ap length (sym f) ∙ joined_length ∙ (let h : w + k ≡ all = omega arith in h)
+      both_length : length both ≡ w + k
+      both_length = ap length (sym f) ∙ joined_length
 
       in_order : ordered ≡ sort_of both
       in_order = g ∙ ap sort_of f
 
-      pub joined_back : (spare : List ℕ) → length spare ≡ length scratch → BackPre enc sparse n (take all (ordered ++ tail)) spare
-      joined_back spare same =
+      pub joined_back : {spare : List ℕ} → length spare ≡ length scratch → BackPre enc sparse n (take (w + k) (ordered ++ tail)) spare
+      joined_back {spare} same =
           let p = enc.normal_precision in
           let s = enc.sparse_precision in
           let kept_length = length-take-le n sparse (let h : n ≤ length sparse = omega (arith, pre.in_sparse) in h) in
           record {
             merge =
-                sorted_merge both ordered tail all both_length in_order enc (take n sparse) spare pre.fits pre.order pre.kept_valid
+                sorted_merge both ordered tail (w + k) both_length in_order enc (take n sparse) spare pre.order pre.kept_valid
                 (valid_append p s (take w pending) (take k scratch) pre.waiting_valid pre.incoming_valid)
                 (omega (arith, pre.in_scratch, pre.in_sparse, same, kept_length));
-            room = omega (arith, pre.in_sparse, ap length (sorted_front both ordered tail all both_length in_order), length_sort both, both_length);
+            room = omega (arith, pre.in_sparse, ap length (sorted_front both ordered tail (w + k) both_length in_order), length_sort both, both_length);
           }
 
-      pub joined_post : (r : Merged) (after : List ℕ)
-          → MergePost enc.normal_precision enc.sparse_precision (take n sparse) (take all (ordered ++ tail)) r after
+      pub joined_post : {r : Merged} {after : List ℕ}
+          → MergePost enc.normal_precision enc.sparse_precision (take n sparse) (take (w + k) (ordered ++ tail)) r after
           → MergePost enc.normal_precision enc.sparse_precision (take n sparse) both r after
-      joined_post = sorted_post both ordered tail all both_length in_order enc (take n sparse)
+      joined_post = sorted_post both ordered tail (w + k) both_length in_order enc (take n sparse) _ _
 
 -- ---- all values as one list
 
@@ -277,18 +271,19 @@ module _ {h : Accumulator} {kept waiting vs : List ℕ} (ready : ListReady h.pre
       omega (arith, one.count, length_merged h.precision h.sparse_precision kept (waiting ++ vs), length-append waiting vs)
 
   one_settle : {registers : List ℕ} {enc : Encoding} → register_bytes h.precision ≤ length registers → NewPost h.precision h.sparse_precision enc
-      → SettlePre h enc registers (take u.len after)
-  one_settle {registers} {enc} room new =
+      → u.len ≤ length after → SettlePre h enc registers after u
+  one_settle {registers} {enc} room new inside =
       let p = h.precision in
       let s = h.sparse_precision in
       record {
         same = new;
+        inside = inside;
         all =
             of_pair new (λ (p s : ℕ). all_valid p s (take u.len after) ≡ true)
             (ap (all_valid p s) one.values
             ∙ merged_valid p s kept (waiting ++ vs) ready.kept_valid (valid_append p s waiting vs ready.waiting_valid ready.incoming_valid));
         room = of_pair new (λ (p s : ℕ). register_bytes p ≤ length registers) room;
-        few = omega (arith, ap length one.values, one.count, one_count, few, ready.incoming_short);
+        few = omega (arith, one_count, few, ready.incoming_short);
       }
 
   one_shows : (registers : List ℕ) {left : List ℕ} {r : Accumulator} (rest : List ℕ) → Leaves (settle h registers (take u.len after) u.bytes) r left
@@ -319,7 +314,6 @@ module _ {h : Accumulator} {registers sparse pending scratch : List ℕ} {k : �
   merge_join =
       let x = of_pair new (λ (p s : ℕ). ListReady p s h kept waiting vs) pre.ready in
       record {
-        fits = new.fits;
         order = x.order;
         kept_valid = x.kept_valid;
         waiting_valid = x.waiting_valid;
@@ -337,7 +331,7 @@ module _ {h : Accumulator} {registers sparse pending scratch : List ℕ} {k : �
         let x = at_pair new (λ (p s : ℕ). MergePost p s kept (waiting ++ vs) u after) post in
         record { count = x.count; sum = x.bytes; values = x.values }
 
-    pub merged_inside : length after ≡ length sparse → u.len ≤ length after
+    merged_inside : length after ≡ length sparse → u.len ≤ length after
     merged_inside e =
         omega (
           arith,
@@ -348,16 +342,22 @@ module _ {h : Accumulator} {registers sparse pending scratch : List ℕ} {k : �
           taken_length k scratch,
         )
 
-    pub merged_settle : SettlePre h enc registers (take u.len after)
-    merged_settle = one_settle pre.ready merged_few merged_one pre.in_registers new
+    pub merged_settle : length after ≡ length sparse → SettlePre h enc registers after u
+    merged_settle e = one_settle pre.ready merged_few merged_one pre.in_registers new (merged_inside e)
 
     pub merged_shows : {left : List ℕ} {r : Accumulator} (rest : List ℕ) → Leaves (settle h registers (take u.len after) u.bytes) r left
         → Shows (settle h registers (all_merged h (mem registers sparse pending) vs) (written (all_merged h (mem registers sparse pending) vs))) r (mem left after rest)
     merged_shows = one_shows pre.ready merged_few merged_one registers
 
 -- They are inserted.
-module _ {h : Accumulator} {registers sparse vs : List ℕ} (pre : InsertInPre h registers sparse vs) {enc : Encoding}
+module _ {h : Accumulator} {registers sparse scratch : List ℕ} {k : ℕ} (pre : InsertInPre h registers sparse scratch k) {enc : Encoding}
     (new : NewPost h.precision h.sparse_precision enc) where
+  abbrev new_values : List ℕ
+  new_values = take k scratch
+
+  new_length : length new_values ≡ k
+  new_length = length-take-le k scratch pre.inside
+
   abbrev own : List ℕ
   own = take h.sparse_len sparse
 
@@ -367,11 +367,10 @@ module _ {h : Accumulator} {registers sparse vs : List ℕ} (pre : InsertInPre h
   inserted_few : length own + 0 ≤ 2147483647
   inserted_few = omega (arith, pre.ready.short, taken_length h.sparse_len sparse)
 
-  pub insert_into : InsertPre enc sparse h.sparse_len vs h.sparse_bytes
+  pub insert_into : InsertPre enc sparse h.sparse_len new_values h.sparse_bytes
   insert_into =
       record {
-        fits = new.fits;
-        room = pre.in_sparse;
+        room = omega (arith, pre.in_sparse, new_length);
         rises = pre.ready.order;
         distinct = of_pair new (λ (p s : ℕ). distinct_slots p s own ≡ true) pre.distinct;
         least = pre.ready.bytes_low;
@@ -379,32 +378,60 @@ module _ {h : Accumulator} {registers sparse vs : List ℕ} (pre : InsertInPre h
       }
 
   module _ {u : Merged} {after : List ℕ}
-      (post : InsertPost enc.normal_precision enc.sparse_precision sparse h.sparse_len vs h.sparse_bytes u after) where
-    inserted_one : OneList h.precision h.sparse_precision own vs (bytes_of (merged h.precision h.sparse_precision own vs)) u after
+      (post : InsertPost enc.normal_precision enc.sparse_precision sparse h.sparse_len new_values h.sparse_bytes u after) where
+    inserted_one : OneList h.precision h.sparse_precision own new_values (bytes_of (merged h.precision h.sparse_precision own new_values)) u after
     inserted_one =
-        let x = at_pair new (λ (p s : ℕ). InsertPost p s sparse h.sparse_len vs h.sparse_bytes u after) post in
+        let x = at_pair new (λ (p s : ℕ). InsertPost p s sparse h.sparse_len new_values h.sparse_bytes u after) post in
         record { count = x.count; sum = omega (arith, x.bytes); values = x.values }
 
-    pub inserted_inside : length after ≡ length sparse → u.len ≤ length after
+    inserted_inside : length after ≡ length sparse → u.len ≤ length after
     inserted_inside e =
-        omega (arith, one_count pre.ready inserted_few inserted_one, pre.in_sparse, taken_length h.sparse_len sparse)
+        omega (arith, one_count pre.ready inserted_few inserted_one, pre.in_sparse, new_length, taken_length h.sparse_len sparse)
 
-    pub inserted_settle : SettlePre h enc registers (take u.len after)
-    inserted_settle = one_settle pre.ready inserted_few inserted_one pre.in_registers new
+    pub inserted_settle : length after ≡ length sparse → SettlePre h enc registers after u
+    inserted_settle e = one_settle pre.ready inserted_few inserted_one pre.in_registers new (inserted_inside e)
 
     pub inserted_shows : {left : List ℕ} {r : Accumulator} (pending : List ℕ) → Leaves (settle h registers (take u.len after) u.bytes) r left
         → Shows
-        (settle h registers (all_merged h (mem registers sparse pending) vs) (bytes_of (all_merged h (mem registers sparse pending) vs))) r (mem left after pending)
+        (settle h registers (all_merged h (mem registers sparse pending) new_values) (bytes_of (all_merged h (mem registers sparse pending) new_values))) r (mem left after pending)
     inserted_shows {left} {r} pending x =
         subst
         (λ (w : List ℕ).
-        let l = merged h.precision h.sparse_precision own (w ++ vs) in
+        let l = merged h.precision h.sparse_precision own (w ++ new_values) in
         Shows (settle h registers l (bytes_of l)) r (mem left after pending)) (sym (ap (λ (w : ℕ). take w pending) pre.none))
         (one_shows pre.ready inserted_few inserted_one registers pending x)
 
+-- They wait.
+module _ (h : Accumulator) (registers sparse pending scratch : List ℕ) (k : ℕ) (form : h.form ≡ Sparse) (inside : k ≤ length scratch) where
+  pub waiting_shows : {after : List ℕ} → take (h.pending_len + k) after ≡ take h.pending_len pending ++ take k scratch
+      → Shows (as_waiting h (mem registers sparse pending) (take k scratch)) (record h { pending_len = h.pending_len + k }) (mem registers sparse after)
+  waiting_shows {after} e =
+      record {
+        head =
+            ap (λ (f : Form). record h { form = f; pending_len = h.pending_len + k }) form
+            ∙ ap (λ (n : ℕ). with_list h h.sparse_size h.sparse_len h.sparse_bytes (h.pending_len + n)) (sym (length-take-le k scratch inside));
+        registers = refl;
+        kept = refl;
+        waiting = subst (λ (l : List ℕ). Permᴰ l (take h.pending_len pending ++ take k scratch)) (sym e) (Permᴰ.refl _);
+      }
+
+-- All are registers.
+pub densified_shows : (h : Accumulator) (registers sparse pending row : List ℕ) {after : List ℕ} {r : Accumulator} → r ≡ densed h
+    → after
+    ≡ with_registers h.precision
+    (larger (raised_by h.precision h.sparse_precision (zeros h.precision) (take h.sparse_len sparse ++ take h.pending_len pending)) row) registers
+    → Shows (row_taken h (mem registers sparse pending) row) r (mem after sparse pending)
+densified_shows h registers sparse pending row {after} {r} e g =
+    record {
+      head = e;
+      registers = g;
+      kept = ap (λ (y : Accumulator). take y.sparse_len sparse) e;
+      waiting = subst (λ (y : Accumulator). Permᴰ (take y.pending_len pending) []) (sym e) (Permᴰ.refl []);
+    }
+
 -- ---- what comes to a list roll-up
 
-module _ {a : Accumulator} {m : Mem} {scratch : List ℕ} {x : Incoming} {path : Path} {row : List ℕ} {k : ℕ} (f : a.form ≡ Sparse)
+module _ {a : Accumulator} {m : Mem} {scratch : List ℕ} {x : Incoming} {path : Option Path} {row : List ℕ} {k : ℕ} (f : a.form ≡ Sparse)
     (pre : TakingPre a m scratch x path row k) where
   pub taking_fit : FitSparse a m
   taking_fit = fit_sparse a m pre.taken.fit f
@@ -443,20 +470,27 @@ module _ {a : Accumulator} {m : Mem} {scratch : List ℕ} {x : Incoming} {path :
 
   -- The head is counted; its lists are as they were.
   module _ {h : Accumulator} (c : h ≡ counted a x) where
-    pub densify_pre : (length row ≡ 0 → ⊥) → DensifyPre h m.registers (kept_of a m) (waiting_of a m) row
+    pub densify_pre : (length row ≡ 0 → ⊥) → DensifyPre h m.registers m.sparse m.pending row
     densify_pre n =
         let fit = taking_fit in
-        subst (λ (y : Accumulator). DensifyPre y m.registers (kept_of a m) (waiting_of a m) row) (sym c)
+        subst (λ (y : Accumulator). DensifyPre y m.registers m.sparse m.pending row) (sym c)
         (record {
           pair = fit.pair;
+          kept_in = fit.kept_in;
+          waiting_in = fit.waiting_in;
           kept_valid = fit.kept_valid;
           waiting_valid = fit.waiting_valid;
           room = taking_registers;
           size = pre.taken.size (pos_of_ne-zero n) ∙ ap (λ (q : ℕ). 2 ^ q) (pre.taken.same_normal f);
         })
 
-    pub wait_pre : path ≡ Waits → (k ≤ length scratch) × (h.pending_len + k ≤ length m.pending)
-    wait_pre e = (pre.inside, omega (arith, ap (λ (y : Accumulator). y.pending_len) c, (taking_room (ap is_some e)).in_pending))
+    pub wait_pre : path ≡ Some Waits → (h.form ≡ Sparse) × (k ≤ length scratch) × (h.pending_len + k ≤ length m.pending)
+    wait_pre e =
+        (
+          ap (λ (y : Accumulator). y.form) c ∙ f,
+          pre.inside,
+          omega (arith, ap (λ (y : Accumulator). y.pending_len) c, (taking_room (ap is_some e)).in_pending),
+        )
 
     pub merge_pre : is_some path ≡ true → MergeInPre h m.registers m.sparse m.pending scratch k
     merge_pre e =
@@ -468,53 +502,39 @@ module _ {a : Accumulator} {m : Mem} {scratch : List ℕ} {x : Incoming} {path :
           in_registers = taking_registers;
         })
 
-    pub insert_pre : path ≡ Inserts → InsertInPre h m.registers m.sparse (take k scratch)
+    pub insert_pre : path ≡ Some Inserts → InsertInPre h m.registers m.sparse scratch k
     insert_pre e =
         let t = path_inserts a (kept_of a m) x k (sym e ∙ its) in
-        subst (λ (y : Accumulator). InsertInPre y m.registers m.sparse (take k scratch)) (sym c)
+        subst (λ (y : Accumulator). InsertInPre y m.registers m.sparse scratch k) (sym c)
         (record {
+          inside = pre.inside;
           ready =
               subst (λ (w : List ℕ). ListReady a.precision a.sparse_precision (counted a x) (kept_of a m) w (take k scratch))
               (ap (λ (w : ℕ). take w m.pending) t.0) taking_ready;
           none = t.0;
           distinct = t.1;
-          in_sparse = omega (arith, (taking_room (ap is_some e)).in_sparse, taken_values);
+          in_sparse = omega (arith, (taking_room (ap is_some e)).in_sparse);
           in_registers = taking_registers;
         })
 
     -- Registers: all values are registers now.
-    pub shows_row : {r : Accumulator} {after : List ℕ} → (length row ≡ 0 → ⊥) → r ≡ densed h
-        → after
-        ≡ with_registers h.precision (larger (raised_by h.precision h.sparse_precision (zeros h.precision) (kept_of a m ++ waiting_of a m)) row)
-        m.registers → Shows (sparse_after a m x row (take k scratch)) r (mem after m.sparse m.pending)
+    pub shows_row : (length row ≡ 0 → ⊥) → {r : Accumulator} {n : Mem} → Shows (row_taken h m row) r n → Shows (sparse_after a m x row (take k scratch)) r n
     unfolding sparse_after
-    shows_row {r} {after} n e g =
-        let head : r ≡ densed (counted a x) = e ∙ ap densed c in
+    shows_row e {r} {n} s =
         let list = list_after (list_path a (kept_of a m) x (length (take k scratch))) (counted a x) m (take k scratch) in
-        subst (λ (y : After). Shows y r (mem after m.sparse m.pending))
-        (sym (ap (λ (b : Bool). cond b list (row_taken (counted a x) m row)) (ne_eqb (length row) 0 n)))
-        (record {
-          head = head;
-          registers =
-              g
-              ∙ ap
-              (λ (y : Accumulator).
-              with_registers y.precision (larger (raised_by y.precision y.sparse_precision (zeros y.precision) (kept_of a m ++ waiting_of a m)) row)
-              m.registers) c;
-          kept = ap (λ (y : Accumulator). kept_of y m) head;
-          waiting = subst (λ (y : Accumulator). Permᴰ (waiting_of y m) []) (sym head) (Permᴰ.refl []);
-        })
+        subst (λ (y : After). Shows y r n)
+        (ap (λ (y : Accumulator). row_taken y m row) c ∙ sym (ap (λ (b : Bool). cond b list (row_taken (counted a x) m row)) (ne_eqb (length row) 0 e))) s
 
     -- None, and values by their path.
     module _ (z : length row ≡ 0) where
-      shows_path : (q : Path) → path ≡ q → {r : Accumulator} {n : Mem} → Shows (list_after q h m (take k scratch)) r n
+      shows_path : (q : Option Path) → path ≡ q → {r : Accumulator} {n : Mem} → Shows (list_after q h m (take k scratch)) r n
           → Shows (sparse_after a m x row (take k scratch)) r n
       unfolding sparse_after
       shows_path q e {r} {n} s =
           let vs = take k scratch in
           let path_is : q ≡ list_path a (kept_of a m) x (length vs) = sym e ∙ its ∙ ap (list_path a (kept_of a m) x) (sym taken_values) in
           subst (λ (y : After). Shows y r n)
-          (ap₂ (λ (p : Path) (y : Accumulator). list_after p y m vs) path_is c
+          (ap₂ (λ (p : Option Path) (y : Accumulator). list_after p y m vs) path_is c
           ∙ sym
           (ap (λ (b : Bool). cond b (list_after (list_path a (kept_of a m) x (length vs)) (counted a x) m vs) (row_taken (counted a x) m row)) (eq-eqb (length row) 0 z)))
           s
@@ -523,32 +543,20 @@ module _ {a : Accumulator} {m : Mem} {scratch : List ℕ} {x : Incoming} {path :
       unfolding list_after
       shows_none e = shows_path None e (record { head = refl; registers = refl; kept = refl; waiting = Permᴰ.refl (waiting_of h m) })
 
-      pub shows_waits : path ≡ Waits → {r : Accumulator} {after : List ℕ}
-          → r ≡ with_list h h.sparse_size h.sparse_len h.sparse_bytes (h.pending_len + k)
-          → take (h.pending_len + k) after ≡ waiting_of h m ++ take k scratch
-          → Shows (sparse_after a m x row (take k scratch)) r (mem m.registers m.sparse after)
+      pub shows_waits : path ≡ Some Waits → {r : Accumulator} {n : Mem} → Shows (as_waiting h m (take k scratch)) r n
+          → Shows (sparse_after a m x row (take k scratch)) r n
       unfolding list_after
-      shows_waits e {r} {after} g w =
-          shows_path Waits e
-          (record {
-            head =
-                g ∙ ap (λ (n : ℕ). with_list h h.sparse_size h.sparse_len h.sparse_bytes (h.pending_len + n)) (sym taken_values);
-            registers = refl;
-            kept = ap (λ (y : Accumulator). kept_of y m) g;
-            waiting =
-                subst (λ (l : List ℕ). Permᴰ l (waiting_of h m ++ take k scratch)) (sym (ap (λ (y : Accumulator). take y.pending_len after) g ∙ w))
-                (Permᴰ.refl (waiting_of h m ++ take k scratch));
-          })
+      shows_waits e s = shows_path (Some Waits) e s
 
-      pub shows_inserted : path ≡ Inserts → {r : Accumulator} {n : Mem}
+      pub shows_inserted : path ≡ (Some Inserts) → {r : Accumulator} {n : Mem}
           → Shows
           (settle h m.registers (all_merged h m (take k scratch)) (h.sparse_bytes + written (all_merged h m (take k scratch)) - written (kept_of h m))) r n
           → Shows (sparse_after a m x row (take k scratch)) r n
       unfolding list_after
-      shows_inserted e s = shows_path Inserts e s
+      shows_inserted e s = shows_path (Some Inserts) e s
 
-      pub shows_merged : (path ≡ Sorts) ⊎ (path ≡ Merges) → {r : Accumulator} {n : Mem}
+      pub shows_merged : {q : Path} → path ≡ Some q → (q ≡ Sorts) ⊎ (q ≡ Merges) → {r : Accumulator} {n : Mem}
           → Shows (settle h m.registers (all_merged h m (take k scratch)) (written (all_merged h m (take k scratch)))) r n
           → Shows (sparse_after a m x row (take k scratch)) r n
       unfolding list_after
-      shows_merged e s = ⊎_elim (λ (p : path ≡ Sorts). shows_path Sorts p s) (λ (p : path ≡ Merges). shows_path Merges p s) e
+      shows_merged {q} e either s = ⊎_elim (λ (p : q ≡ Sorts). shows_path (Some Sorts) (e ∙ ap Some p) s) (λ (p : q ≡ Merges). shows_path (Some Merges) (e ∙ ap Some p) s) either

@@ -1,18 +1,19 @@
 -- What is taken in first: its values are kept, or its row becomes the registers.
-use Rattle.std.proofs.Common.{◌≡◌, ℕ, ◌+◌, ◌-◌, Bool, cond, List, [], ◌++◌, length, take, sym, refl, ap, ◌∙◌, subst, le_of_eq, pos_of_ne-zero, arith, take_all, eq-eqb, ne_eqb}
+use Rattle.std.proofs.Common.{◌≡◌, ℕ, ◌+◌, Bool, cond, List, [], ◌++◌, length, take, sym, refl, ap, ◌∙◌, subst, pos_of_ne-zero, zero-add, length-take-le, eq-eqb, ne_eqb}
 use mathlib.Core.List.{Permᴰ}
-use lib.Seq.{slice}
 use Rattle.lists.specs.Registers.{registers_of, with_registers, BothHold}
 use Rattle.lists.proofs.RegisterLaws.{row_holds, row_registers}
 use Rattle.rollup.specs.declared.accumulator.Accumulator.{Accumulator}
 use Rattle.rollup.specs.declared.incoming.Incoming.{Incoming}
-use Rattle.rollup.specs.Accumulator.{mem}
-use Rattle.rollup.specs.Header.{is_empty}
+use Rattle.rollup.specs.Accumulator.{Mem, mem}
 use Rattle.rollup.specs.Taking.{list_head, dense_head, start_list, start_dense, start_after, Shows}
-use Rattle.rollup.specs.Stages.{StartPre, StartPost}
+use Rattle.rollup.specs.Stages.{StartPre}
 use Rattle.rollup.proofs.DenseLaws.{dense_shown}
 
-module _ (registers sparse : List ℕ) (x : Incoming) (row vs : List ℕ) (pre : StartPre registers sparse x row vs) where
+module _ {registers sparse scratch : List ℕ} {x : Incoming} {row : List ℕ} {k : ℕ} (pre : StartPre registers sparse scratch x row k) where
+  abbrev vs : List ℕ
+  vs = take k scratch
+
   pub start_load : (length row ≡ 0 → ⊥) → BothHold x.precision registers row
   start_load h =
       record {
@@ -20,47 +21,34 @@ module _ (registers sparse : List ℕ) (x : Incoming) (row vs : List ℕ) (pre :
         from = record { high = pre.high; room = row_holds x.precision row (pre.size (pos_of_ne-zero h)) };
       }
 
-  -- Of the two ways, that which was gone.
-  gone : (r : Accumulator) (after left : List ℕ) {t : Bool} → is_empty row ≡ t
-      → ((before pending : List ℕ) → Shows (cond t (start_list (mem registers before pending) x vs) (start_dense (mem registers before pending) x row)) r (mem after left pending))
-      → StartPost registers x row vs r after left
-  unfolding start_after
-  gone r after left e f =
-      record {
-        shows = λ (before pending : List ℕ).
-            subst
-            (λ (t : Bool).
-            Shows (cond t (start_list (mem registers before pending) x vs) (start_dense (mem registers before pending) x row)) r (mem after left pending))
-            (sym e) (f before pending);
-      }
+  module _ (pending : List ℕ) where
+    abbrev before : Mem
+    before = mem registers sparse pending
 
-  pub start_list_lem : (r : Accumulator) (n : ℕ) (after : List ℕ) → length row ≡ 0 → n ≡ 0 + (length vs - 0)
-      → take n after ≡ take 0 sparse ++ slice 0 (length vs) vs
-      → r ≡ list_head x.mask x.value_type x.num_values x.precision x.sparse_precision x.sparse_size n x.list_bytes 0
-      → StartPost registers x row vs r registers after
-  start_list_lem r n after h count copied head =
-      let all : n ≡ length vs = count ∙ (let z : 0 + (length vs - 0) ≡ length vs = omega arith in z) in
-      gone r registers after (eq-eqb (length row) 0 h)
-      (λ (before pending : List ℕ).
-      record {
-        head =
-            head
-            ∙ ap
-            (λ (k : ℕ). list_head x.mask x.value_type x.num_values x.precision x.sparse_precision x.sparse_size k x.list_bytes 0)
-            all;
-        registers = refl;
-        kept = ap (λ (y : Accumulator). take y.sparse_len after) head ∙ copied ∙ take_all (length vs) vs (le_of_eq refl);
-        waiting = subst (λ (l : List ℕ). Permᴰ l []) (sym (ap (λ (y : Accumulator). take y.pending_len pending) head)) Permᴰ.nil;
-      })
+    pub start_list_lem : {r : Accumulator} {left : List ℕ} → length row ≡ 0 → take (0 + k) left ≡ take 0 sparse ++ vs
+        → r ≡ list_head x.mask x.value_type x.num_values x.precision x.sparse_precision x.sparse_size k x.list_bytes 0
+        → Shows (start_after before x row vs) r (mem registers left pending)
+    unfolding start_after
+    start_list_lem {r} {left} h copied head =
+        subst (λ (t : Bool). Shows (cond t (start_list before x vs) (start_dense before x row)) r (mem registers left pending))
+        (sym (eq-eqb (length row) 0 h))
+        (record {
+          head =
+              head
+              ∙ ap (λ (n : ℕ). list_head x.mask x.value_type x.num_values x.precision x.sparse_precision x.sparse_size n x.list_bytes 0)
+              (sym (length-take-le k scratch pre.inside));
+          registers = refl;
+          kept = ap (λ (y : Accumulator). take y.sparse_len left) head ∙ ap (λ (n : ℕ). take n left) (sym (zero-add k)) ∙ copied;
+          waiting = subst (λ (l : List ℕ). Permᴰ l []) (sym (ap (λ (y : Accumulator). take y.pending_len pending) head)) Permᴰ.nil;
+        })
 
-  pub start_dense_lem : (r : Accumulator) (after left : List ℕ) → (length row ≡ 0 → ⊥)
-      → after ≡ with_registers x.precision (registers_of x.precision row) registers
-      → r ≡ dense_head x.mask x.value_type x.num_values x.precision x.sparse_precision x.sparse_size 0
-      → StartPost registers x row vs r after left
-  start_dense_lem r after left h loaded head =
-      gone r after left (ne_eqb (length row) 0 h)
-      (λ (before pending : List ℕ).
-      dense_shown (start_dense (mem registers before pending) x row) r after head
-      (loaded
-      ∙ ap (λ (l : List ℕ). with_registers x.precision l registers) (row_registers x.precision row (pre.size (pos_of_ne-zero h)))) refl refl refl
-      refl left pending)
+    pub start_dense_lem : {r : Accumulator} {after : List ℕ} → (length row ≡ 0 → ⊥) → after ≡ with_registers x.precision (registers_of x.precision row) registers
+        → r ≡ dense_head x.mask x.value_type x.num_values x.precision x.sparse_precision x.sparse_size 0
+        → Shows (start_after before x row vs) r (mem after sparse pending)
+    unfolding start_after
+    start_dense_lem {r} {after} h loaded head =
+        subst (λ (t : Bool). Shows (cond t (start_list before x vs) (start_dense before x row)) r (mem after sparse pending))
+        (sym (ne_eqb (length row) 0 h))
+        (dense_shown (start_dense before x row) r after head
+        (loaded ∙ ap (λ (l : List ℕ). with_registers x.precision l registers) (row_registers x.precision row (pre.size (pos_of_ne-zero h)))) refl refl refl
+        refl sparse pending)

@@ -1,5 +1,5 @@
 -- Taking in: an accepted state can be taken in, and what each form requires of what comes in.
-use Rattle.std.proofs.Common.{◌≡◌, ℕ, ◌<◌, ◌≤◌, true, List, [], length, sym, refl, subst, ⊎_elim, le_of_eq, arith}
+use Rattle.std.proofs.Common.{◌≡◌, ℕ, ◌<◌, ◌≤◌, true, List, [], length, take, sym, refl, subst, Option, length-take-le, ⊎_elim, le_of_eq, arith}
 use Rattle.wire.specs.Reading.{got}
 use Rattle.wire.specs.State.{State}
 use Rattle.wire.proofs.VarintLaws.{side}
@@ -9,11 +9,12 @@ use Rattle.rollup.specs.declared.accumulator.Form.{Form}
 use Rattle.rollup.specs.declared.accumulator.Form.TheVariants.{Unstarted, Sparse, Dense}
 use Rattle.rollup.specs.declared.accumulator.Accumulator.{Accumulator}
 use Rattle.rollup.specs.declared.incoming.Incoming.{Incoming}
-use Rattle.rollup.specs.Accumulator.{Mem, mem, fits}
+use Rattle.rollup.specs.Accumulator.{Mem, fits}
 use Rattle.rollup.specs.Header.{data_of, list_of}
-use Rattle.rollup.specs.Taking.{taken_after, sparse_after, Shows}
+use Rattle.rollup.specs.declared.paths.Path.{Path}
+use Rattle.rollup.specs.Taking.{taken_after, Shows}
 use Rattle.rollup.specs.Adding.{state_numbers, judge_answer, wanted_precision, has_room, listed_in}
-use Rattle.rollup.specs.Stages.{StartPre, StartPost, DensePre, DensePost, TakePre}
+use Rattle.rollup.specs.Stages.{StartPre, DensePre, TakePre, TakingPre}
 use Rattle.rollup.proofs.FitLaws.{fit_none, fit_sparse, fit_dense}
 use Rattle.rollup.proofs.JudgeLaws.{judged_facts, room_facts}
 
@@ -74,37 +75,39 @@ ready_takes {a} {m} {room} {st} {vs} ready =
 
 -- ---- by the form
 
-module _ {a : Accumulator} {m : Mem} {room : ℕ} {x : Incoming} {row vs : List ℕ} (pre : TakePre a m room x row vs) where
-  pub start_pre : a.form ≡ Unstarted → StartPre m.registers m.sparse x row vs
+module _ {a : Accumulator} {m : Mem} {scratch : List ℕ} {x : Incoming} {path : Option Path} {row : List ℕ} {k : ℕ} (pre : TakingPre a m scratch x path row k) where
+  abbrev vs : List ℕ
+  vs = take k scratch
+
+  values : length vs ≡ k
+  values = length-take-le k scratch pre.inside
+
+  pub start_pre : a.form ≡ Unstarted → StartPre m.registers m.sparse scratch x row k
   start_pre f =
+      let t = pre.taken in
       record {
-        high = pre.high;
-        size = pre.size;
-        in_registers = subst (λ (g : Form). register_bytes (wanted_precision g a x.precision) ≤ length m.registers) f pre.in_registers;
-        in_sparse = ⊎_elim (λ (h : 0 < length vs). omega (arith, (pre.in_lists h).in_sparse)) (λ (h : length vs ≤ 0). omega arith) (side 0 (length vs));
+        high = t.high;
+        size = t.size;
+        in_registers = subst (λ (g : Form). register_bytes (wanted_precision g a x.precision) ≤ length m.registers) f t.in_registers;
+        inside = pre.inside;
+        in_sparse =
+            ⊎_elim (λ (h : 0 < length vs). omega (arith, (t.in_lists h).in_sparse, values)) (λ (h : length vs ≤ 0). omega (arith, values))
+            (side 0 (length vs));
       }
 
-  pub dense_pre : a.form ≡ Dense → DensePre a m.registers x row vs
+  pub dense_pre : a.form ≡ Dense → DensePre a m.registers scratch x row k
   dense_pre f =
-      let d = fit_dense a m pre.fit f in
+      let t = pre.taken in
+      let d = fit_dense a m t.fit f in
       record {
+        inside = pre.inside;
         own_low = d.low;
         own = record { high = d.high; room = d.room; small = omega (arith, d.small, d.high) };
-        low = pre.low;
-        lowers = record { high = pre.high; size = pre.size; small = omega (arith, pre.small, pre.high); pair = pre.pair; all = pre.all };
+        low = t.low;
+        lowers = record { high = t.high; size = t.size; small = omega (arith, t.small, t.high); pair = t.pair; all = t.all };
       }
 
-module _ (a : Accumulator) (registers sparse pending : List ℕ) (x : Incoming) (row vs : List ℕ) where
-  abbrev Taken : Accumulator → Mem → Type 0
-  Taken r n = Shows (taken_after a.form a (mem registers sparse pending) x row vs) r n
-
-  pub taken_start : (r : Accumulator) (after left : List ℕ) → a.form ≡ Unstarted → StartPost registers x row vs r after left → Taken r (mem after left pending)
-  taken_start r after left e post =
-      subst (λ (f : Form). Shows (taken_after f a (mem registers sparse pending) x row vs) r (mem after left pending)) (sym e) (post.shows sparse pending)
-
-  pub taken_sparse : (r : Accumulator) (n : Mem) → a.form ≡ Sparse → Shows (sparse_after a (mem registers sparse pending) x row vs) r n → Taken r n
-  taken_sparse r n e shows = subst (λ (f : Form). Shows (taken_after f a (mem registers sparse pending) x row vs) r n) (sym e) shows
-
-  pub taken_dense : (r : Accumulator) (after : List ℕ) → a.form ≡ Dense → DensePost a registers x row vs r after → Taken r (mem after sparse pending)
-  taken_dense r after e post =
-      subst (λ (f : Form). Shows (taken_after f a (mem registers sparse pending) x row vs) r (mem after sparse pending)) (sym e) (post.shows sparse pending)
+-- The form says what is left.
+pub taken_by : (a : Accumulator) (m : Mem) (x : Incoming) (row vs : List ℕ) (f : Form) {r : Accumulator} {n : Mem} → a.form ≡ f
+    → Shows (taken_after f a m x row vs) r n → Shows (taken_after a.form a m x row vs) r n
+taken_by a m x row vs f {r} {n} e shows = subst (λ (g : Form). Shows (taken_after g a m x row vs) r n) (sym e) shows

@@ -6,7 +6,6 @@ use Rattle.wire.specs.State.{State, empty_state, read_state}
 use Rattle.wire.proofs.BoundLaws.{sparse_precision_small}
 use Rattle.lists.proofs.DecodingLaws.{accepted, decode_number}
 use Rattle.rollup.specs.declared.accumulator.Accumulator.{Accumulator}
-use Rattle.rollup.specs.declared.adding.Added.{Added}
 use Rattle.rollup.specs.Accumulator.{Mem, fits, fresh}
 use Rattle.rollup.specs.Header.{data_of, list_of}
 use Rattle.rollup.specs.Adding.{Outcome, refuse, accept, accepted_after, judge, has_room, listed_in, add_outcome, state_numbers, AddPost}
@@ -20,40 +19,41 @@ use Rattle.rollup.proofs.KeepsLaws.{taken_keeps, refused_keeps, write_keeps}
 
 -- ---- the view
 
-pub record IsRefused (a : Accumulator) (m : Mem) (r : Added) (n : Mem) : Type 0 where
-  pub number : r.answer ≡ 0 → ⊥
-  pub same : Shows (unchanged a m) r.head n
+pub record IsRefused (a : Accumulator) (m : Mem) (answer : ℕ) (head : Accumulator) (n : Mem) : Type 0 where
+  pub number : answer ≡ 0 → ⊥
+  pub same : Shows (unchanged a m) head n
 
 -- The bytes are a state and its list was read, so that `state_in` and `values_in` are what the definition went on with.
-pub record IsAccepted (a : Accumulator) (m : Mem) (room : ℕ) (bytes : List ℕ) (r : Added) (n : Mem) : Type 0 where
-  pub none : r.answer ≡ 0
+pub record IsAccepted (a : Accumulator) (m : Mem) (room : ℕ) (bytes : List ℕ) (answer : ℕ) (head : Accumulator) (n : Mem) : Type 0 where
+  pub none : answer ≡ 0
   pub ready : Ready a m room (state_in bytes) (values_in (state_in bytes))
-  pub shows : Shows (accepted_after a.form a m (state_in bytes) (values_in (state_in bytes))) r.head n
+  pub shows : Shows (accepted_after a.form a m (state_in bytes) (values_in (state_in bytes))) head n
 
-module _ (a : Accumulator) (m : Mem) (room : ℕ) (bytes : List ℕ) (r : Added) (n : Mem) (fit : fits a m ≡ true) (post : AddPost a m room bytes r n) where
+module _ (a : Accumulator) (m : Mem) (room : ℕ) (bytes : List ℕ) (answer : ℕ) (head : Accumulator) (n : Mem) (fit : fits a m ≡ true)
+    (post : AddPost a m room bytes answer head n) where
   abbrev View : Type 0
-  View = IsRefused a m r n ⊎ IsAccepted a m room bytes r n
+  View = IsRefused a m answer head n ⊎ IsAccepted a m room bytes answer head n
 
   with_number_lem : (k : ℕ) → 0 < k → add_outcome a m room bytes ≡ refuse k a m → View
   with_number_lem k h e =
       inl (record {
-        number = λ (z : r.answer ≡ 0).
-            let f : k ≡ 0 = sym (ap (λ (x : Outcome). x.answer) e) ∙ sym post.answer ∙ z in
+        number = λ (z : answer ≡ 0).
+            let f : k ≡ 0 = sym (ap (λ (x : Outcome). x.answer) e) ∙ sym post.answered ∙ z in
             omega arith;
-        same = subst (λ (x : Outcome). Shows x.after r.head n) e post.after;
+        same = subst (λ (x : Outcome). Shows x.after head n) e post.after;
       })
 
   with_state : (st : State) (vs : List ℕ) → state_in bytes ≡ st → values_in st ≡ vs → Ready a m room st vs
       → add_outcome a m room bytes ≡ accept (accepted_after a.form a m st vs) → View
   with_state st vs s v ready e =
       inr (record {
-        none = post.answer ∙ ap (λ (x : Outcome). x.answer) e;
+        none = post.answered ∙ ap (λ (x : Outcome). x.answer) e;
         ready =
             subst (λ (x : State). Ready a m room x (values_in x)) (sym s) (subst (λ (l : List ℕ). Ready a m room st l) (sym v) ready);
         shows =
-            subst (λ (x : State). Shows (accepted_after a.form a m x (values_in x)) r.head n) (sym s)
-            (subst (λ (l : List ℕ). Shows (accepted_after a.form a m st l) r.head n) (sym v)
-            (subst (λ (x : Outcome). Shows x.after r.head n) e post.after));
+            subst (λ (x : State). Shows (accepted_after a.form a m x (values_in x)) head n) (sym s)
+            (subst (λ (l : List ℕ). Shows (accepted_after a.form a m st l) head n) (sym v)
+            (subst (λ (x : Outcome). Shows x.after head n) e post.after));
       })
 
   pub add_view : View
@@ -85,12 +85,12 @@ module _ (a : Accumulator) (m : Mem) (room : ℕ) (bytes : List ℕ) (r : Added)
       by_judge (got st rest) e = by_room st rest e (has_room a m room st) refl
 
   -- "After every call": a head that fits is left by one that was accepted and by one that was refused.
-  pub add_keeps : fits r.head n ≡ true
+  pub add_keeps : fits head n ≡ true
   add_keeps =
-      ⊎_elim (λ (x : IsRefused a m r n). refused_keeps a m fit 0 r.head n x.same)
-      (λ (x : IsAccepted a m room bytes r n).
+      ⊎_elim (λ (x : IsRefused a m answer head n). refused_keeps a m fit 0 head n x.same)
+      (λ (x : IsAccepted a m room bytes answer head n).
       let st = state_in bytes in
-      taken_keeps a m room (state_numbers st (values_in st)) (data_of st) (values_in st) (ready_takes x.ready) r.head n x.shows) add_view
+      taken_keeps a m room (state_numbers st (values_in st)) (data_of st) (values_in st) (ready_takes x.ready) head n x.shows) add_view
 
 -- ---- lists of calls
 
@@ -98,8 +98,8 @@ module _ (a : Accumulator) (m : Mem) (room : ℕ) (bytes : List ℕ) (r : Added)
 pub steps_after : {a₀ : Accumulator} {m₀ : Mem} {c d : List Call} {a : Accumulator} {m : Mem} {b : Accumulator} {n : Mem} → Steps a₀ m₀ c a m → Steps a m d b n
     → Steps a₀ m₀ (d ++ c) b n
 steps_after s begun = s
-steps_after s (adding room bytes r n t post) = adding room bytes r n (steps_after s t) post
-steps_after s (writing room out r n after t post) = writing room out r n after (steps_after s t) post
+steps_after s (adding room bytes answer head n t post) = adding room bytes answer head n (steps_after s t) post
+steps_after s (writing room out answer len n after t post) = writing room out answer len n after (steps_after s t) post
 steps_after s (moving n t post) = moving n (steps_after s t) post
 
 pub fresh_fits : (m : Mem) → fits fresh m ≡ true
@@ -108,8 +108,8 @@ fresh_fits m = fit_none_back fresh m refl (record { no_kept = refl; no_waiting =
 -- From a head that fits on, each call gets one that fits, so that question 1 is answered with yes all along.
 pub steps_fit : {a₀ : Accumulator} {m₀ : Mem} {calls : List Call} {a : Accumulator} {m : Mem} → Steps a₀ m₀ calls a m → fits a₀ m₀ ≡ true → fits a m ≡ true
 steps_fit begun fit = fit
-steps_fit (adding {a = a} {m = m} room bytes r n steps post) fit = add_keeps a m room bytes r n (steps_fit steps fit) post
-steps_fit (writing {a = a} {m = m} room out r n after steps post) fit = write_keeps a m room out r n after (steps_fit steps fit) post
+steps_fit (adding {a = a} {m = m} room bytes answer head n steps post) fit = add_keeps a m room bytes answer head n (steps_fit steps fit) post
+steps_fit (writing {a = a} {m = m} room out answer len n after steps post) fit = write_keeps a m room out answer len n after (steps_fit steps fit) post
 steps_fit (moving n steps post) fit = post.fit
 
 pub run_fits : {first : Mem} {calls : List Call} {a : Accumulator} {m : Mem} → Run first calls a m → fits a m ≡ true

@@ -110,15 +110,15 @@ module _ (a : Accumulator) (m : Mem) (room : ℕ) (x : Incoming) (row vs : List 
 pub steps_widths : {a₀ : Accumulator} {m₀ : Mem} {calls : List Call} {a : Accumulator} {m : Mem} → Steps a₀ m₀ calls a m → fits a₀ m₀ ≡ true → HeadWidths a₀
     → HeadWidths a
 steps_widths begun fit w = w
-steps_widths (adding {a = a} {m = m} room bytes r n steps post) fit w =
-    ⊎_elim (λ (x : IsRefused a m r n). subst HeadWidths (sym x.same.head) (steps_widths steps fit w))
-    (λ (x : IsAccepted a m room bytes r n).
+steps_widths (adding {a = a} {m = m} room bytes answer head n steps post) fit w =
+    ⊎_elim (λ (x : IsRefused a m answer head n). subst HeadWidths (sym x.same.head) (steps_widths steps fit w))
+    (λ (x : IsAccepted a m room bytes answer head n).
     let st = state_in bytes in
     let vs = values_in st in
     subst HeadWidths (sym x.shows.head)
     (taken_widths a m room (state_numbers st vs) (data_of st) vs (ready_takes x.ready) (steps_widths steps fit w) (state_widths bytes vs)))
-    (add_view a m room bytes r n (steps_fit steps fit) post)
-steps_widths (writing room out r n after steps post) fit w = steps_widths steps fit w
+    (add_view a m room bytes answer head n (steps_fit steps fit) post)
+steps_widths (writing room out answer len n after steps post) fit w = steps_widths steps fit w
 steps_widths (moving n steps post) fit w = steps_widths steps fit w
 
 pub fresh_widths : HeadWidths fresh

@@ -1,6 +1,6 @@
 -- Writing: the questions one after the other, and what is written. `write_outcome`, `flushed`, `current_size`, `state_form`, `below_limit` and
 -- `list_outcome` are unfolded here alone.
-use Rattle.std.proofs.Common.{◌≡◌, ℕ, ◌+◌, ◌-◌, ◌^◌, ◌<◌, ◌≤◌, Bool, true, false, cond, leb, List, [], ◌++◌, length, take, drop, sym, refl, ap, ◌∙◌, subst, ap₂, ⊎_elim, append_assoc, append-nil, zero-add, arith, length-append, length-drop, drop_of_length-le, length-take-le, take_all, drop-drop, take_at, drop_at, ltb-true, le-ltb, lt-ltb, eq-eqb, ne_eqb, le-leb, leb-true}
+use Rattle.std.proofs.Common.{◌≡◌, ℕ, ◌+◌, ◌-◌, ◌^◌, ◌<◌, ◌≤◌, Bool, true, false, cond, leb, List, [], ◌++◌, length, take, drop, sym, refl, ap, ◌∙◌, subst, ⊎_elim, append_assoc, append-nil, zero-add, arith, length-append, length-drop, drop_of_length-le, length-take-le, take_all, drop-drop, take_at, drop_at, ltb-true, le-ltb, lt-ltb, eq-eqb, ne_eqb, le-leb, leb-true, ap₂, Result, Ok, Err}
 use mathlib.Core.List.Permᴰ
 use mathlib.Core.List.{Permᴰ}
 use mathlib.Core.Option.{none, some}
@@ -9,15 +9,17 @@ use borrow.Rule.Slice.PartMut.{mid_of, post_of, put_mid}
 use borrow.Author.Tests.{lt-leb}
 use Rattle.wire.specs.Varints.{PutPost}
 use Rattle.wire.specs.declared.state.Fields.{Fields}
-use Rattle.wire.specs.declared.encoding.Encoded.{Encoded}
-use Rattle.wire.specs.declared.encoding.Encoded.TheVariants.{Written as Put, Short}
+use Rattle.wire.specs.declared.view.StateView.{StateView}
+use Rattle.wire.specs.declared.encoding.EncodeError.{EncodeError}
+use Rattle.wire.specs.declared.encoding.EncodeError.TheVariants.{OutputTooShort}
 use Rattle.wire.specs.State.{State, state_of, bytes_or_none}
-use Rattle.wire.specs.Encoding.{head_of, hll_head, encode_of, Output, encode_step, EncodePost}
+use Rattle.rollup.specs.Header.{viewed}
+use Rattle.wire.specs.Encoding.{encoded_number, encoded_length, head_of, hll_head, encode_of, Output, encode_step, EncodePost}
 use Rattle.wire.proofs.VarintLaws.{side}
 use Rattle.wire.proofs.EncodingLaws.{head_any, head_tail, head_length, hll_head_le, outer_numbers_le, prefix_le, encode_yes, encode_no}
 use Rattle.lists.specs.declared.values.Sparse.{Sparse as Encoding}
 use Rattle.lists.specs.declared.merging.Merged.{Merged}
-use Rattle.lists.specs.Values.{NewPost}
+use Rattle.lists.specs.Pairs.{NewPost}
 use Rattle.lists.specs.Sorting.{ascends, sort_of}
 use Rattle.lists.specs.Lists.{all_valid, written, encode_list, merged, distinct_slots, distinct_indices, IndexPre, MergePost}
 use Rattle.lists.specs.Merging.{EncodePre, MergePre}
@@ -29,7 +31,6 @@ use Rattle.lists.proofs.RegisterLaws.{registers_are}
 use Rattle.rollup.specs.declared.accumulator.Form.{Form}
 use Rattle.rollup.specs.declared.accumulator.Form.TheVariants.{Unstarted, Sparse, Dense}
 use Rattle.rollup.specs.declared.accumulator.Accumulator.{Accumulator}
-use Rattle.rollup.specs.declared.writing.Written.{Written}
 use Rattle.rollup.specs.Accumulator.{Mem, mem, kept_of, waiting_of, limit, fits, is_started}
 use Rattle.rollup.specs.Writing.{flushed, current_size, state_with, state_form, below_limit, unless, write_outcome, WritePost}
 use Rattle.rollup.specs.WritingPaths.{Writes, written_fields, list_outcome, ValuesPre, FlushPre, FlushPost}
@@ -48,11 +49,11 @@ go n {next} e = ap (λ (t : Bool). unless t n next) e
 stop : {q : Bool} (n : ℕ) (next : Output) → q ≡ false → unless q n next ≡ refusal n
 stop n next e = ap (λ (t : Bool). unless t n next) e
 
-pub writes_no : (x : Output) (n : ℕ) (out : List ℕ) → x ≡ refusal n → Writes x out (record { answer = n; len = 0 }) out
+pub writes_no : (x : Output) (n : ℕ) (out : List ℕ) → x ≡ refusal n → Writes x out n 0 out
 writes_no x n out e =
     record {
-      answer = ap (λ (o : Output). o.answer) (sym e);
-      len = ap (λ (o : Output). length o.bytes) (sym e);
+      answered = ap (λ (o : Output). o.answer) (sym e);
+      counted = ap (λ (o : Output). length o.bytes) (sym e);
       output = ap (λ (o : Output). o.bytes ++ drop (length o.bytes) out) (sym e);
     }
 
@@ -83,7 +84,7 @@ module _ (a : Accumulator) (size : ℕ) (l : List ℕ) (bytes : ℕ) (pre : Valu
   abbrev list_state : State
   list_state = state_with a size none (some (encode_list l))
 
-  pub values_22 : (out : List ℕ) → top ≤ bytes → Writes (list_outcome a size l (length out)) out (record { answer = 22; len = 0 }) out
+  pub values_22 : (out : List ℕ) → top ≤ bytes → Writes (list_outcome a size l (length out)) out 22 0 out
   unfolding list_outcome
   values_22 out h =
       writes_no (list_outcome a size l (length out)) 22 out
@@ -99,18 +100,24 @@ module _ (a : Accumulator) (size : ℕ) (l : List ℕ) (bytes : ℕ) (pre : Valu
     to_encode space =
         go 22 (lt-ltb (written l) (limit a.precision) (let g : written l < limit a.precision = omega (arith, pre.count) in g))
 
-    module _ (f : Fields) (e : f ≡ written_fields a size false 0 bytes) where
-      pub head_pre : length (bytes_or_none (state_of [] f).hll.«data») + f.hll.sparse_data.len < 2 ^ 63
+    module _ (v : StateView) (b : v.bytes.now ≡ []) (e : v.fields ≡ written_fields a size false 0 bytes) where
+      view_is : viewed v ≡ state_of [] (written_fields a size false 0 bytes)
+      view_is = ap₂ state_of b e
+
+      list_len : v.fields.hll.sparse_data.len ≡ bytes
+      list_len = ap (λ (x : Fields). x.hll.sparse_data.len) e
+
+      pub head_pre : length (bytes_or_none (viewed v).hll.«data») + v.fields.hll.sparse_data.len < 2 ^ 63
       head_pre =
-          subst (λ (g : Fields). length (bytes_or_none (state_of [] g).hll.«data») + g.hll.sparse_data.len < 2 ^ 63) (sym e)
-          (let g : 0 + bytes < 2 ^ 63 = omega (arith, values_small) in g)
+          subst (λ (st : State). length (bytes_or_none st.hll.«data») + v.fields.hll.sparse_data.len < 2 ^ 63) (sym view_is)
+          (let g : 0 + v.fields.hll.sparse_data.len < 2 ^ 63 = omega (arith, values_small, list_len) in g)
 
       abbrev head : List ℕ
-      head = head_of (state_of [] f) f.hll.sparse_data.len
+      head = head_of (viewed v) v.fields.hll.sparse_data.len
 
       head_view : head ≡ head_of list_state bytes
       head_view =
-          ap (λ (g : Fields). head_of (state_of [] g) g.hll.sparse_data.len) e
+          ap₂ head_of view_is list_len
           ∙ head_any (state_of [] (written_fields a size false 0 bytes)) (some (encode_list l)) bytes
 
       whole : encode_of list_state ≡ head ++ encode_list l
@@ -135,14 +142,13 @@ module _ (a : Accumulator) (size : ℕ) (l : List ℕ) (bytes : ℕ) (pre : Valu
           )
 
       pub values_23 : (out : List ℕ) (n : ℕ) → n ≡ length head → length out < n + bytes
-          → Writes (list_outcome a size l (length out)) out (record { answer = 23; len = 0 }) out
+          → Writes (list_outcome a size l (length out)) out 23 0 out
       values_23 out n g h =
           writes_no (list_outcome a size l (length out)) 23 out
           (to_encode (length out) ∙ encode_no list_state (length out) (let k : length out < length (encode_of list_state) = omega (arith, whole_length) in k))
 
-      pub values_room : (out : List ℕ) (n : ℕ) → n ≡ length head → n + bytes ≤ length out → length head + f.hll.sparse_data.len ≤ length out
-      values_room out n g h =
-          let k : f.hll.sparse_data.len ≡ bytes = ap (λ (x : Fields). x.hll.sparse_data.len) e in omega arith
+      pub values_room : (out : List ℕ) (n : ℕ) → n ≡ length head → n + bytes ≤ length out → length head + v.fields.hll.sparse_data.len ≤ length out
+      values_room out n g h = omega (arith, list_len)
 
       module _ (out : List ℕ) (n : ℕ) (g : n ≡ length head) (h : n + bytes ≤ length out) (at : ℕ) (mid : List ℕ) (p : PutPost out 0 head at mid) where
         mid_length : length mid ≡ length out
@@ -161,14 +167,14 @@ module _ (a : Accumulator) (size : ℕ) (l : List ℕ) (bytes : ℕ) (pre : Valu
             (record { order = pre.order; room = omega (arith, p.next, mid_length, pre.count, length-drop at mid) })
 
         pub values_written : (r : ℕ) (y : List ℕ) → PutPost (mid_of at (length mid - at) mid) 0 (encode_list l) r y
-            → Writes (list_outcome a size l (length out)) out (record { answer = 0; len = n + bytes }) (put_mid at (length mid - at) mid y)
+            → Writes (list_outcome a size l (length out)) out 0 (n + bytes) (put_mid at (length mid - at) mid y)
         values_written r y q =
             let x : list_outcome a size l (length out) ≡ record { answer = 0; bytes = encode_of list_state } =
             to_encode (length out) ∙ encode_yes list_state (length out) (let j : length (encode_of list_state) ≤ length out = omega (arith, whole_length) in j) in
             let room : length head + length (encode_list l) ≤ length out = omega (arith, length_encode l, pre.count) in
             record {
-              answer = ap (λ (o : Output). o.answer) (sym x);
-              len = (let j : n + bytes ≡ length (encode_of list_state) = omega (arith, whole_length) in j) ∙ ap (λ (o : Output). length o.bytes) (sym x);
+              answered = ap (λ (o : Output). o.answer) (sym x);
+              counted = (let j : n + bytes ≡ length (encode_of list_state) = omega (arith, whole_length) in j) ∙ ap (λ (o : Output). length o.bytes) (sym x);
               output =
                   ap (λ (z : List ℕ). take at mid ++ (y ++ z)) tail_end
                   ∙ ap (λ (z : List ℕ). take at mid ++ z) (append-nil y)
@@ -183,27 +189,25 @@ module _ (a : Accumulator) (registers out : List ℕ) where
   abbrev dense_state : State
   dense_state = state_with a a.sparse_size (some (registers_of a.precision registers)) none
 
-  -- The data field is the register bytes.
-  state_view : (f : Fields) (n : ℕ) → n ≡ register_bytes a.precision → f ≡ written_fields a a.sparse_size true n 0 → state_of registers f ≡ dense_state
-  state_view f n e g =
-      ap (state_of registers) g
-      ∙ ap (λ (k : ℕ). state_with a a.sparse_size (some (take k registers)) none) e
-      ∙ ap (λ (d : List ℕ). state_with a a.sparse_size (some d) none) (sym (registers_are a.precision registers))
+  module _ (v : StateView) (b : v.bytes.now ≡ registers) (n : ℕ) (e : n ≡ register_bytes a.precision) (g : v.fields ≡ written_fields a a.sparse_size true n 0) where
+    -- The data field is the register bytes.
+    dense_view : viewed v ≡ dense_state
+    dense_view =
+        ap₂ state_of b g
+        ∙ ap (λ (k : ℕ). state_with a a.sparse_size (some (take k registers)) none) e
+        ∙ ap (λ (d : List ℕ). state_with a a.sparse_size (some d) none) (sym (registers_are a.precision registers))
 
-  module _ (f : Fields) (n : ℕ) (e : n ≡ register_bytes a.precision) (g : f ≡ written_fields a a.sparse_size true n 0) (r : Encoded) (after : List ℕ)
-      (p : EncodePost (state_of registers f) out r after) where
-    encoded : EncodePost dense_state out r after
-    encoded = subst (λ (st : State). EncodePost st out r after) (state_view f n e g) p
+    module _ (r : Result ℕ EncodeError) (after : List ℕ) (p : EncodePost (viewed v) out r after) where
+      encoded : Writes (encode_step dense_state (length out)) out (encoded_number r) (encoded_length r) after
+      encoded =
+          let q = subst (λ (st : State). EncodePost st out r after) dense_view p in
+          record { answered = q.answer; counted = q.written; output = q.output }
 
-    pub dense_23 : r ≡ Short → Writes (encode_step dense_state (length out)) out (record { answer = 23; len = 0 }) after
-    dense_23 k =
-        let q = subst (λ (x : Encoded). EncodePost dense_state out x after) k encoded in
-        record { answer = q.answer; len = q.written; output = q.output }
+    pub dense_23 : (k : EncodeError) (after : List ℕ) → EncodePost (viewed v) out (Err k) after → Writes (encode_step dense_state (length out)) out 23 0 after
+    dense_23 OutputTooShort after p = encoded (Err OutputTooShort) after p
 
-    pub dense_put : (j : ℕ) → r ≡ Put j → Writes (encode_step dense_state (length out)) out (record { answer = 0; len = j }) after
-    dense_put j k =
-        let q = subst (λ (x : Encoded). EncodePost dense_state out x after) k encoded in
-        record { answer = q.answer; len = q.written; output = q.output }
+    pub dense_put : (j : ℕ) (after : List ℕ) → EncodePost (viewed v) out (Ok j) after → Writes (encode_step dense_state (length out)) out 0 j after
+    dense_put j after p = encoded (Ok j) after p
 
 -- ---- what is kept and what waits, as one list
 
@@ -278,29 +282,29 @@ module _ (a : Accumulator) (registers sparse pending : List ℕ) (room : ℕ) (o
   before = mem registers sparse pending
 
   -- What waits is as it was, or in another order.
-  pub posted : (r : Written) (left after : List ℕ) → Writes (write_outcome a before room (length out)) out r after
+  pub posted : (answer len : ℕ) (left after : List ℕ) → Writes (write_outcome a before room (length out)) out answer len after
       → Permᴰ (take a.pending_len left) (take a.pending_len pending) → length left ≡ length pending
-      → WritePost a before room out r (mem registers sparse left) after
-  posted r left after w p n =
+      → WritePost a before room out answer len (mem registers sparse left) after
+  posted answer len left after w p n =
       record {
-        answer = w.answer;
-        len = w.len;
+        answered = w.answered;
+        counted = w.counted;
         output = w.output;
         same = record { head = refl; registers = refl; kept = refl; waiting = p };
         free = record { registers = refl; sparse = refl; pending = n };
       }
 
-  pub untouched : (r : Written) (after : List ℕ) → Writes (write_outcome a before room (length out)) out r after
-      → WritePost a before room out r before after
-  untouched r after w = posted r pending after w (Permᴰ.refl (take a.pending_len pending)) refl
+  pub untouched : (answer len : ℕ) (after : List ℕ) → Writes (write_outcome a before room (length out)) out answer len after
+      → WritePost a before room out answer len before after
+  untouched answer len after w = posted answer len pending after w (Permᴰ.refl (take a.pending_len pending)) refl
 
-  pub refused_by : (n : ℕ) → write_outcome a before room (length out) ≡ refusal n → WritePost a before room out (record { answer = n; len = 0 }) before out
-  refused_by n e = untouched (record { answer = n; len = 0 }) out (writes_no (write_outcome a before room (length out)) n out e)
+  pub refused_by : (n : ℕ) → write_outcome a before room (length out) ≡ refusal n → WritePost a before room out n 0 before out
+  refused_by n e = untouched n 0 out (writes_no (write_outcome a before room (length out)) n out e)
 
-  pub dense_post : fits a before ≡ true → a.form ≡ Dense → (r : Written) (after : List ℕ)
-      → Writes (encode_step (state_with a a.sparse_size (some (registers_of a.precision registers)) none) (length out)) out r after
-      → WritePost a before room out r before after
-  dense_post fit f r after w = untouched r after (subst (λ (x : Output). Writes x out r after) (sym (write_dense a before room (length out) fit f)) w)
+  pub dense_post : fits a before ≡ true → a.form ≡ Dense → (answer len : ℕ) (after : List ℕ)
+      → Writes (encode_step (state_with a a.sparse_size (some (registers_of a.precision registers)) none) (length out)) out answer len after
+      → WritePost a before room out answer len before after
+  dense_post fit f answer len after w = untouched answer len after (subst (λ (x : Output). Writes x out answer len after) (sym (write_dense a before room (length out) fit f)) w)
 
 -- ---- a list roll-up
 
@@ -325,19 +329,19 @@ module _ (a : Accumulator) (sparse pending : List ℕ) (form : a.form ≡ Sparse
 
   module _ (room : ℕ) (out : List ℕ) where
     pub list_17 : room < a.sparse_len + a.pending_len → (registers : List ℕ)
-        → WritePost a (mem registers sparse pending) room out (record { answer = 17; len = 0 }) (mem registers sparse pending) out
+        → WritePost a (mem registers sparse pending) room out 17 0 (mem registers sparse pending) out
     list_17 h registers =
         refused_by a registers sparse pending room out 17
         (write_full a (mem registers sparse pending) room (length out) (any_registers registers) form h)
 
     module _ (enough : a.sparse_len + a.pending_len ≤ room) where
       listed_post : (registers : List ℕ) (size : ℕ) (l : List ℕ) → current_size a (mem registers sparse pending) ≡ size
-          → flushed a (mem registers sparse pending) ≡ l → (r : Written) (left after : List ℕ) → Writes (list_outcome a size l (length out)) out r after
+          → flushed a (mem registers sparse pending) ≡ l → (answer len : ℕ) (left after : List ℕ) → Writes (list_outcome a size l (length out)) out answer len after
           → Permᴰ (take a.pending_len left) (take a.pending_len pending) → length left ≡ length pending
-          → WritePost a (mem registers sparse pending) room out r (mem registers sparse left) after
-      listed_post registers size l e f r left after w =
-          posted a registers sparse pending room out r left after
-          (subst (λ (x : Output). Writes x out r after)
+          → WritePost a (mem registers sparse pending) room out answer len (mem registers sparse left) after
+      listed_post registers size l e f answer len left after w =
+          posted a registers sparse pending room out answer len left after
+          (subst (λ (x : Output). Writes x out answer len after)
           (ap₂ (λ (k : ℕ) (v : List ℕ). list_outcome a k v (length out)) (sym e) (sym f)
           ∙ sym (write_listed a (mem registers sparse pending) room (length out) (any_registers registers) form enough)) w)
 
@@ -345,19 +349,18 @@ module _ (a : Accumulator) (sparse pending : List ℕ) (form : a.form ≡ Sparse
       pub kept_pre : (bytes : ℕ) → bytes ≡ written (take a.sparse_len sparse) → ValuesPre a (take a.sparse_len sparse) bytes
       kept_pre bytes e = record { low = list_fit.pair.low; high = list_fit.pair.high; order = list_fit.order; count = e }
 
-      pub kept_post : a.pending_len ≡ 0 → (r : Written) (after : List ℕ)
-          → Writes (list_outcome a a.sparse_size (take a.sparse_len sparse) (length out)) out r after
-          → (registers : List ℕ) → WritePost a (mem registers sparse pending) room out r (mem registers sparse pending) after
-      kept_post e r after w registers =
+      pub kept_post : a.pending_len ≡ 0 → (answer len : ℕ) (after : List ℕ)
+          → Writes (list_outcome a a.sparse_size (take a.sparse_len sparse) (length out)) out answer len after
+          → (registers : List ℕ) → WritePost a (mem registers sparse pending) room out answer len (mem registers sparse pending) after
+      kept_post e answer len after w registers =
           listed_post registers a.sparse_size (take a.sparse_len sparse) (size_none a (mem registers sparse pending) e)
-          (flushed_none a (mem registers sparse pending) e) r pending after w (Permᴰ.refl (take a.pending_len pending)) refl
+          (flushed_none a (mem registers sparse pending) e) answer len pending after w (Permᴰ.refl (take a.pending_len pending)) refl
 
       -- Values wait.
       module _ (enc : Encoding) (new : NewPost a.precision a.sparse_precision enc) where
         pub flush_pre : (scratch : List ℕ) → length scratch ≡ room → FlushPre enc (take a.sparse_len sparse) pending a.pending_len scratch
         flush_pre scratch e =
             record {
-              fits = new.fits;
               order = list_fit.order;
               kept_valid = of_pair new (λ (p s : ℕ). all_valid p s (take a.sparse_len sparse) ≡ true) list_fit.kept_valid;
               waiting_valid = of_pair new (λ (p s : ℕ). all_valid p s (take a.pending_len pending) ≡ true) list_fit.waiting_valid;
@@ -391,7 +394,6 @@ module _ (a : Accumulator) (sparse pending : List ℕ) (form : a.form ≡ Sparse
               let p = enc.normal_precision in
               let s = enc.sparse_precision in
               record {
-                fits = new.fits;
                 rises = ap ascends x.merge.values ∙ merged_ascends p s kept waiting;
                 allowed =
                     ap (all_valid p s) x.merge.values
@@ -421,16 +423,16 @@ module _ (a : Accumulator) (sparse pending : List ℕ) (form : a.form ≡ Sparse
               }
 
           pub flushed_post : (a.pending_len ≡ 0 → ⊥) → (k : ℕ) → k ≡ distinct_indices enc.normal_precision enc.sparse_precision (take u.len scratch)
-              → length left ≡ length pending → (r : Written) (after : List ℕ) → Writes (list_outcome a k (take u.len scratch) (length out)) out r after
-              → (registers : List ℕ) → WritePost a (mem registers sparse pending) room out r (mem registers sparse left) after
-          flushed_post n k e g r after w registers =
+              → length left ≡ length pending → (answer len : ℕ) (after : List ℕ) → Writes (list_outcome a k (take u.len scratch) (length out)) out answer len after
+              → (registers : List ℕ) → WritePost a (mem registers sparse pending) room out answer len (mem registers sparse left) after
+          flushed_post n k e g answer len after w registers =
               let p = a.precision in
               let s = a.sparse_precision in
               let m = mem registers sparse pending in
               let list : take u.len scratch ≡ merged p s kept waiting = at_pair new (λ (p s : ℕ). take u.len scratch ≡ merged p s kept waiting) x.merge.values in
               let size : k ≡ distinct_indices p s (take u.len scratch) = at_pair new (λ (p s : ℕ). k ≡ distinct_indices p s (take u.len scratch)) e in
               listed_post registers k (take u.len scratch) (size_some a m n ∙ ap (distinct_indices p s) (sym list) ∙ sym size)
-              (flushed_some a m n ∙ sym list) r left after w
+              (flushed_some a m n ∙ sym list) answer len left after w
               (subst (λ (l : List ℕ). Permᴰ l waiting) (sym x.waiting) (perm_sort waiting)) g
 
 -- ---- sorting what waits, and the merge
@@ -446,7 +448,7 @@ module _ (enc : Encoding) (kept pending : List ℕ) (w : ℕ) (scratch : List �
 
     pub flush_merge : (spare : List ℕ) → length spare ≡ length scratch → MergePre enc kept (take w (ordered ++ tail)) spare
     flush_merge spare same =
-        sorted_merge (take w pending) ordered tail w waiting_length e enc kept spare pre.fits pre.order pre.kept_valid pre.waiting_valid
+        sorted_merge (take w pending) ordered tail w waiting_length e enc kept spare pre.order pre.kept_valid pre.waiting_valid
         (omega (arith, pre.room, same))
 
     pub flush_post : (r : Merged) (after : List ℕ) → MergePost enc.normal_precision enc.sparse_precision kept (take w (ordered ++ tail)) r after

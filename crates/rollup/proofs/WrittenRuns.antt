@@ -10,7 +10,6 @@ use Rattle.lists.proofs.RegisterLaws.{of_length}
 use Rattle.rollup.specs.declared.accumulator.Form.{Form}
 use Rattle.rollup.specs.declared.accumulator.Form.TheVariants.{Unstarted, Sparse, Dense}
 use Rattle.rollup.specs.declared.accumulator.Accumulator.{Accumulator}
-use Rattle.rollup.specs.declared.writing.Written.{Written}
 use Rattle.rollup.specs.Accumulator.{Mem, kept_of, waiting_of, is_started}
 use Rattle.rollup.specs.Header.{data_of, is_empty}
 use Rattle.rollup.specs.Adding.{listed_in, add_outcome}
@@ -96,26 +95,26 @@ module _ (a : Accumulator) (m : Mem) (room space : ℕ) (wrote : (write_outcome 
 
 -- ---- the theorems
 
-module _ (a : Accumulator) (m : Mem) (room : ℕ) (out : List ℕ) (r : Written) (n : Mem) (after : List ℕ) (post : WritePost a m room out r n after) where
+module _ (a : Accumulator) (m : Mem) (room : ℕ) (out : List ℕ) (answer len : ℕ) (n : Mem) (after : List ℕ) (post : WritePost a m room out answer len n after) where
   abbrev bytes : List ℕ
   bytes = (write_outcome a m room (length out)).bytes
 
   -- The bytes that were written are the front of the output.
-  front : take r.len after ≡ bytes
-  front = ap (λ (l : List ℕ). take r.len l) post.output ∙ take_at bytes (drop (length bytes) out) r.len (sym post.len)
+  front : take len after ≡ bytes
+  front = ap (λ (l : List ℕ). take len l) post.output ∙ take_at bytes (drop (length bytes) out) len (sym post.counted)
 
-  shorter : (k : ℕ) → k < r.len → take k after ≡ take k bytes
+  shorter : (k : ℕ) → k < len → take k after ≡ take k bytes
   shorter k h =
       ap (λ (l : List ℕ). take k l) post.output
-      ∙ take-append-le k bytes (drop (length bytes) out) (let g : k ≤ length bytes = omega (arith, post.len) in g)
+      ∙ take-append-le k bytes (drop (length bytes) out) (let g : k ≤ length bytes = omega (arith, post.counted) in g)
 
 pub written_reads : WrittenReads
 unfolding WrittenReads state_in
-written_reads a m room out r n after w post z =
-    let wrote : (write_outcome a m room (length out)).answer ≡ 0 = sym post.answer ∙ z in
-    let read : read_state (take r.len after) ≡ got (state_form a.form a m) [] =
-    ap read_state (front a m room out r n after post) ∙ read_back a m room (length out) wrote w in
-    let same : state_in (take r.len after) ≡ state_form a.form a m = ap (value_or empty_state) read in
+written_reads a m room out answer len n after w post z =
+    let wrote : (write_outcome a m room (length out)).answer ≡ 0 = sym post.answered ∙ z in
+    let read : read_state (take len after) ≡ got (state_form a.form a m) [] =
+    ap read_state (front a m room out answer len n after post) ∙ read_back a m room (length out) wrote w in
+    let same : state_in (take len after) ≡ state_form a.form a m = ap (value_or empty_state) read in
     let is = state_is a m room (length out) wrote in
     record {
       read = read;
@@ -126,7 +125,7 @@ written_reads a m room out r n after w post z =
 
 pub no_prefix : NoPrefixAccepted
 unfolding NoPrefixAccepted
-no_prefix a m room out r n after w post z k h b l room' e =
-    let wrote : (write_outcome a m room (length out)).answer ≡ 0 = sym post.answer ∙ z in
-    no_prefix_accepted a m room (length out) wrote w k (subst (λ (x : ℕ). k < x) post.len h) b l room'
-    (subst (λ (x : List ℕ). (add_outcome b l room' x).answer ≡ 0) (shorter a m room out r n after post k h) e)
+no_prefix a m room out answer len n after w post z k h b l room' e =
+    let wrote : (write_outcome a m room (length out)).answer ≡ 0 = sym post.answered ∙ z in
+    no_prefix_accepted a m room (length out) wrote w k (subst (λ (x : ℕ). k < x) post.counted h) b l room'
+    (subst (λ (x : List ℕ). (add_outcome b l room' x).answer ≡ 0) (shorter a m room out answer len n after post k h) e)

@@ -1,5 +1,5 @@
 -- The accumulator (document 01's head) and its lent memory, and what fits (question 1).
-use Rattle.std.specs.Prelude.{ℕ, ◌+◌, ◌-◌, ◌*◌, ◌^◌, ◌<◌, Bool, true, false, not, ◌&&◌, ◌||◌, List, length, take, ◌==◌, nat_le, nat_lt}
+use Rattle.std.specs.Prelude.{ℕ, Option, Some, None, ◌+◌, ◌-◌, ◌*◌, ◌^◌, ◌<◌, Bool, true, false, not, ◌&&◌, ◌||◌, List, length, take, ◌==◌, nat_le, nat_lt}
 use Rattle.lists.specs.Values.{largest_rank}
 use Rattle.lists.specs.Sorting.{ascends}
 use Rattle.lists.specs.Lists.{all_valid, written}
@@ -7,8 +7,6 @@ use Rattle.lists.specs.Registers.{register_bytes, registers_of, largest}
 use Rattle.rollup.specs.declared.accumulator.Form.{Form}
 use Rattle.rollup.specs.declared.accumulator.Form.TheVariants.{Unstarted, Sparse, Dense}
 use Rattle.rollup.specs.declared.accumulator.Accumulator.{Accumulator}
-use Rattle.rollup.specs.declared.accumulator.Precisions.{Precisions}
-use Rattle.rollup.specs.declared.accumulator.Precisions.TheVariants.{Pair, None}
 
 -- Lent memory: register bytes and the lists `sparse` (document 01's kept) and `pending` (its waiting). Of `scratch` (its working) only the
 -- length counts, which stands beside it.
@@ -141,7 +139,7 @@ count_of Unstarted a = 0
 count_of Sparse a = a.num_values
 count_of Dense a = a.num_values
 
-abbrev pub precisions_of : Form → Accumulator → Precisions
+abbrev pub precisions_of : Form → Accumulator → Option (ℕ × ℕ)
 precisions_of Unstarted a = None
-precisions_of Sparse a = Pair a.precision a.sparse_precision
-precisions_of Dense a = Pair a.precision a.sparse_precision
+precisions_of Sparse a = Some (a.precision, a.sparse_precision)
+precisions_of Dense a = Some (a.precision, a.sparse_precision)

@@ -9,7 +9,6 @@ use Rattle.rollup.specs.declared.accumulator.Form.{Form}
 use Rattle.rollup.specs.declared.accumulator.Form.TheVariants.{Unstarted, Sparse, Dense}
 use Rattle.rollup.specs.declared.accumulator.Accumulator.{Accumulator}
 use Rattle.rollup.specs.declared.incoming.Incoming.{Incoming}
-use Rattle.rollup.specs.declared.adding.Added.{Added}
 use Rattle.rollup.specs.Accumulator.{Mem, max_pending, is_started, fits}
 use Rattle.rollup.specs.Header.{ask, first_no, data_of, list_of, is_empty, mask_of, header_answer, passing, read_header}
 use Rattle.rollup.specs.Taking.{After, unchanged, Shows, Free, common_mask, taken_after}
@@ -129,7 +128,7 @@ add_outcome a m room bytes =
 
 -- ---- the contract
 
-pub record AddPost (a : Accumulator) (m : Mem) (room : ℕ) (bytes : List ℕ) (r : Added) (n : Mem) : Type 0 where
-  pub answer : r.answer ≡ (add_outcome a m room bytes).answer
-  pub after : Shows (add_outcome a m room bytes).after r.head n
+pub record AddPost (a : Accumulator) (m : Mem) (room : ℕ) (bytes : List ℕ) (answer : ℕ) (head : Accumulator) (n : Mem) : Type 0 where
+  pub answered : answer ≡ (add_outcome a m room bytes).answer
+  pub after : Shows (add_outcome a m room bytes).after head n
   pub free : Free m n

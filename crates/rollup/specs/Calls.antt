@@ -9,8 +9,6 @@ use Rattle.rollup.specs.declared.accumulator.Form.{Form}
 use Rattle.rollup.specs.declared.accumulator.Form.TheVariants.{Unstarted, Sparse, Dense}
 use Rattle.rollup.specs.declared.accumulator.Accumulator.{Accumulator}
 use Rattle.rollup.specs.declared.incoming.Incoming.{Incoming}
-use Rattle.rollup.specs.declared.adding.Added.{Added}
-use Rattle.rollup.specs.declared.writing.Written.{Written}
 use Rattle.rollup.specs.Accumulator.{Mem, kept_of, waiting_of, fits, fresh, HeadWidths}
 use Rattle.rollup.specs.Header.{data_of, is_empty, mask_of}
 use Rattle.rollup.specs.Adding.{state_numbers, listed_in, add_outcome, AddPost}
@@ -38,10 +36,10 @@ pub record Moved (a : Accumulator) (m n : Mem) : Type 0 where
 -- `WritePost` are what the functions promise, so whatever a call leaves free is arbitrary between the calls.
 pub data Steps : Accumulator → Mem → List Call → Accumulator → Mem → Type 0 where
   begun : {a : Accumulator} {m : Mem} → Steps a m [] a m
-  adding : {a₀ : Accumulator} {m₀ : Mem} {calls : List Call} {a : Accumulator} {m : Mem} (room : ℕ) (bytes : List ℕ) (r : Added) (n : Mem)
-      → Steps a₀ m₀ calls a m → AddPost a m room bytes r n → Steps a₀ m₀ (added room bytes r.answer ∷ calls) r.head n
-  writing : {a₀ : Accumulator} {m₀ : Mem} {calls : List Call} {a : Accumulator} {m : Mem} (room : ℕ) (out : List ℕ) (r : Written) (n : Mem) (after : List ℕ)
-      → Steps a₀ m₀ calls a m → WritePost a m room out r n after → Steps a₀ m₀ (wrote room out r.answer ∷ calls) a n
+  adding : {a₀ : Accumulator} {m₀ : Mem} {calls : List Call} {a : Accumulator} {m : Mem} (room : ℕ) (bytes : List ℕ) (answer : ℕ) (head : Accumulator) (n : Mem)
+      → Steps a₀ m₀ calls a m → AddPost a m room bytes answer head n → Steps a₀ m₀ (added room bytes answer ∷ calls) head n
+  writing : {a₀ : Accumulator} {m₀ : Mem} {calls : List Call} {a : Accumulator} {m : Mem} (room : ℕ) (out : List ℕ) (answer len : ℕ) (n : Mem) (after : List ℕ)
+      → Steps a₀ m₀ calls a m → WritePost a m room out answer len n after → Steps a₀ m₀ (wrote room out answer ∷ calls) a n
   moving : {a₀ : Accumulator} {m₀ : Mem} {calls : List Call} {a : Accumulator} {m : Mem} (n : Mem) → Steps a₀ m₀ calls a m → Moved a m n
       → Steps a₀ m₀ (moved ∷ calls) a n
 
@@ -120,8 +118,8 @@ rollup_registers Dense a m = registers_of a.precision m.registers
 -- "Every call's answer, writing's too, is the one that the questions above give for the head, lent memory, state bytes and output of that call."
 unfoldable pub Answered : {a₀ : Accumulator} {m₀ : Mem} {calls : List Call} {a : Accumulator} {m : Mem} → Steps a₀ m₀ calls a m → Type 0
 Answered begun = Unit
-Answered (adding {a = a} {m = m} room bytes r n steps post) = Answered steps × (r.answer ≡ (add_outcome a m room bytes).answer)
-Answered (writing {a = a} {m = m} room out r n after steps post) = Answered steps × (r.answer ≡ (write_outcome a m room (length out)).answer)
+Answered (adding {a = a} {m = m} room bytes answer head n steps post) = Answered steps × (answer ≡ (add_outcome a m room bytes).answer)
+Answered (writing {a = a} {m = m} room out answer len n after steps post) = Answered steps × (answer ≡ (write_outcome a m room (length out)).answer)
 Answered (moving n steps post) = Answered steps
 
 pub record Agrees (first : Mem) (calls : List Call) (a : Accumulator) (m : Mem) (run : Run first calls a m) : Type 0 where
@@ -176,11 +174,11 @@ pub record WrittenIs (a : Accumulator) (m : Mem) (bytes : List ℕ) : Type 0 whe
 -- What a write that answered 0 left at the front of its output is such bytes, whatever led to the head.
 unfoldable pub WrittenReads : Type 0
 WrittenReads =
-    (a : Accumulator) (m : Mem) (room : ℕ) (out : List ℕ) (r : Written) (n : Mem) (after : List ℕ) → HeadWidths a → WritePost a m room out r n after
-    → r.answer ≡ 0 → WrittenIs a m (take r.len after)
+    (a : Accumulator) (m : Mem) (room : ℕ) (out : List ℕ) (answer len : ℕ) (n : Mem) (after : List ℕ) → HeadWidths a → WritePost a m room out answer len n after
+    → answer ≡ 0 → WrittenIs a m (take len after)
 
 -- And no proper prefix of it is accepted, by any roll-up: a state that was cut off on its way is refused, whatever head and memory it meets.
 unfoldable pub NoPrefixAccepted : Type 0
 NoPrefixAccepted =
-    (a : Accumulator) (m : Mem) (room : ℕ) (out : List ℕ) (r : Written) (n : Mem) (after : List ℕ) → HeadWidths a → WritePost a m room out r n after
-    → r.answer ≡ 0 → (k : ℕ) → k < r.len → (b : Accumulator) (l : Mem) (room' : ℕ) → (add_outcome b l room' (take k after)).answer ≢ 0
+    (a : Accumulator) (m : Mem) (room : ℕ) (out : List ℕ) (answer len : ℕ) (n : Mem) (after : List ℕ) → HeadWidths a → WritePost a m room out answer len n after
+    → answer ≡ 0 → (k : ℕ) → k < len → (b : Accumulator) (l : Mem) (room' : ℕ) → (add_outcome b l room' (take k after)).answer ≢ 0

@@ -1,46 +1,36 @@
 -- What `read_header` (questions 2 to 14) and `judge` (2 to 16) answer, and what is asked for after them.
-use Rattle.std.specs.Prelude.{◌≡◌, ℕ, ◌<◌, ◌≤◌, true, List, [], length}
+use Rattle.std.specs.Prelude.{◌≡◌, ℕ, Result, Ok, Err, ◌<◌, ◌≤◌, true, List, [], length}
 use Rattle.wire.specs.Reading.{Read, got, refused}
-use Rattle.wire.specs.State.{State, state_of, HllInside}
-use Rattle.wire.specs.declared.state.Parsed.{Parsed}
-use Rattle.wire.specs.declared.state.Parsed.TheVariants.{Read as StateRead, Refused as StateRefused}
+use Rattle.wire.specs.State.{State, HllInside}
 use Rattle.lists.specs.Values.{Pair}
 use Rattle.rollup.specs.declared.accumulator.Accumulator.{Accumulator}
-use Rattle.rollup.specs.declared.judging.Judged.{Judged}
-use Rattle.rollup.specs.declared.judging.Judged.TheVariants.{State as JudgedState, Refused}
+use Rattle.wire.specs.declared.view.StateView.{StateView}
+use Rattle.rollup.specs.declared.refusal.Refusal.{Refusal}
+use Rattle.rollup.specs.Refusals.{number}
 use Rattle.rollup.specs.Accumulator.{Mem, fits}
-use Rattle.rollup.specs.Header.{list_of, read_header}
+use Rattle.rollup.specs.Header.{viewed, list_of, read_header}
 use Rattle.rollup.specs.Adding.{judge_answer, judge}
 
 -- ---- the answer
 
 -- What an answer says of the bytes that were judged, and that its positions lie inside.
-abbrev pub judged_means : List ℕ → Judged → Read State
-judged_means s (JudgedState f) = got (state_of s f) []
-judged_means s (Refused n) = refused n
+abbrev pub judged_means : Result StateView Refusal → Read State
+judged_means (Ok v) = got (viewed v) []
+judged_means (Err e) = refused (number e)
 
-abbrev pub JudgedInside : List ℕ → Judged → Type 0
-JudgedInside s (JudgedState f) = HllInside s f.hll
-JudgedInside s (Refused n) = Unit
+abbrev pub JudgedInside : List ℕ → Result StateView Refusal → Type 0
+JudgedInside s (Ok v) = HllInside s v.fields.hll
+JudgedInside s (Err e) = Unit
 
-pub record Judges (x : Read State) (s : List ℕ) (r : Judged) : Type 0 where
-  pub answer : judged_means s r ≡ x
+pub record Judges (x : Read State) (s : List ℕ) (r : Result StateView Refusal) : Type 0 where
+  pub answer : judged_means r ≡ x
   pub inside : JudgedInside s r
 
-abbrev pub HeaderPost : List ℕ → Judged → Type 0
+abbrev pub HeaderPost : List ℕ → Result StateView Refusal → Type 0
 HeaderPost s r = Judges (read_header s) s r
 
-abbrev pub JudgePost : Accumulator → List ℕ → Judged → Type 0
+abbrev pub JudgePost : Accumulator → List ℕ → Result StateView Refusal → Type 0
 JudgePost a s r = Judges (judge a s) s r
-
--- Document 01's number of a refusal.
-abbrev pub judged_refusal : Judged → ℕ
-judged_refusal (JudgedState f) = 0
-judged_refusal (Refused n) = n
-
-abbrev pub parsed_refusal : Parsed → ℕ
-parsed_refusal (StateRead f) = 0
-parsed_refusal (StateRefused n) = n
 
 -- ---- what the stages after it ask for
 

@@ -1,15 +1,15 @@
 -- What the stages of taking in and of adding require and promise, file by file of the code, besides `Shows` and `AddPost`. Nothing here says what the roll-up does: that is in
 -- specs/Taking and specs/Adding.
-use Rattle.std.specs.Prelude.{◌≡◌, ℕ, ◌+◌, ◌*◌, ◌^◌, ◌<◌, ◌≤◌, min, Bool, true, false, List, [], length, take}
+use Rattle.std.specs.Prelude.{◌≡◌, ℕ, Option, Some, None, ◌+◌, ◌*◌, ◌^◌, ◌<◌, ◌≤◌, min, Bool, true, false, List, [], length, take}
 use Rattle.wire.specs.State.{State}
-use Rattle.lists.specs.Values.{Pair, SparseFits, NewPost, largest_rank}
+use Rattle.lists.specs.Values.{Pair, largest_rank}
+use Rattle.lists.specs.Pairs.{NewPost}
 use Rattle.lists.specs.Sorting.{ascends}
 use Rattle.lists.specs.Lists.{all_valid, distinct_slots, written}
 use Rattle.lists.specs.Registers.{register_bytes, registers_of, with_registers, lowered_in_place, largest}
 use Rattle.lists.specs.declared.values.Sparse.{Sparse as Encoding}
 use Rattle.lists.specs.Merging.{MergePre}
-use Rattle.lists.specs.declared.decoding.Decoded.{Decoded}
-use Rattle.lists.specs.declared.decoding.Decoded.TheVariants.{Done, Refused}
+use Rattle.lists.specs.declared.merging.Merged.{Merged}
 use Rattle.rollup.specs.declared.accumulator.Form.TheVariants.{Unstarted, Sparse, Dense}
 use Rattle.rollup.specs.declared.accumulator.Accumulator.{Accumulator}
 use Rattle.rollup.specs.declared.incoming.Incoming.{Incoming}
@@ -18,8 +18,8 @@ use Rattle.rollup.specs.Taking.{start_after, After, dense_after, path_of, Shows}
 use Rattle.rollup.specs.Adding.{state_numbers, accepted_after, wanted_registers, AddPost}
 use Rattle.rollup.specs.declared.accumulator.Form.{Form}
 use Rattle.rollup.specs.declared.paths.Path.{Path}
-use Rattle.rollup.specs.declared.paths.Path.TheVariants.{None, Waits, Sorts, Inserts, Merges}
-use Rattle.rollup.specs.declared.adding.AddedFitting.{AddedFitting}
+use Rattle.rollup.specs.declared.paths.Path.TheVariants.{Waits, Sorts, Inserts, Merges}
+use Rattle.rollup.specs.declared.adding.Fitted.{Fitted}
 use Rattle.rollup.specs.Header.{data_of}
 
 -- ---- which path values take (src/paths)
@@ -48,27 +48,26 @@ pub record InsertsPre (a : Accumulator) (kept : List ℕ) (distinct : Bool) : Ty
 abbrev pub PathPre : Accumulator → Incoming → List ℕ → ℕ → Bool → Type 0
 PathPre a x kept k distinct = a.form ≡ Sparse → WaitPre a x k × InsertsPre a kept distinct
 
--- ---- what is taken in first (src/starting). The lent memory that a function does not take may hold anything.
+-- ---- what is taken in first (src/starting)
 
 -- A row of 2^p registers, or none, and room for it and for the values.
-pub record StartPre (registers sparse : List ℕ) (x : Incoming) (row vs : List ℕ) : Type 0 where
+pub record StartPre (registers sparse scratch : List ℕ) (x : Incoming) (row : List ℕ) (k : ℕ) : Type 0 where
   pub high : x.precision ≤ 24
   pub size : 0 < length row → length row ≡ 2 ^ x.precision
   pub in_registers : register_bytes x.precision ≤ length registers
-  pub in_sparse : length vs ≤ length sparse
-
-pub record StartPost (registers : List ℕ) (x : Incoming) (row vs : List ℕ) (r : Accumulator) (after sparse : List ℕ) : Type 0 where
-  pub shows : (before pending : List ℕ) → Shows (start_after (mem registers before pending) x row vs) r (mem after sparse pending)
+  pub inside : k ≤ length scratch
+  pub in_sparse : k ≤ length sparse
 
 -- ---- a list roll-up (src/sparse_paths). Where a function takes the head after the mask and the count of values were brought up to date, nothing of what comes in is left
 -- to be known but its row or its values.
 
--- The precisions of an encoding are the head's, and the list can be set and counted.
-pub record SettlePre (h : Accumulator) (enc : Encoding) (registers l : List ℕ) : Type 0 where
+-- The precisions of an encoding are the head's, and the list that a merge left can be set and counted.
+pub record SettlePre (h : Accumulator) (enc : Encoding) (registers sparse : List ℕ) (r : Merged) : Type 0 where
   pub same : NewPost h.precision h.sparse_precision enc
-  pub all : all_valid enc.normal_precision enc.sparse_precision l ≡ true
+  pub inside : r.len ≤ length sparse
+  pub all : all_valid enc.normal_precision enc.sparse_precision (take r.len sparse) ≡ true
   pub room : register_bytes enc.normal_precision ≤ length registers
-  pub few : length l < 2 ^ 32
+  pub few : r.len < 2 ^ 32
 
 -- What was to be left of the head and the registers is there.
 pub record Leaves (x : After) (r : Accumulator) (registers : List ℕ) : Type 0 where
@@ -82,7 +81,6 @@ pub record BackPre (enc : Encoding) (sparse : List ℕ) (n : ℕ) (incoming scra
 
 -- The same with the values that wait and those that come in, which stand at the start of `scratch`.
 pub record JoinPre (enc : Encoding) (sparse : List ℕ) (n : ℕ) (pending : List ℕ) (w : ℕ) (scratch : List ℕ) (k : ℕ) : Type 0 where
-  pub fits : SparseFits enc
   pub order : ascends (take n sparse) ≡ true
   pub kept_valid : all_valid enc.normal_precision enc.sparse_precision (take n sparse) ≡ true
   pub waiting_valid : all_valid enc.normal_precision enc.sparse_precision (take w pending) ≡ true
@@ -118,25 +116,27 @@ pub record MergeInPre (h : Accumulator) (registers sparse pending scratch : List
   pub in_registers : register_bytes h.precision ≤ length registers
 
 -- Nothing waits, and those that come in can be inserted.
-pub record InsertInPre (h : Accumulator) (registers sparse vs : List ℕ) : Type 0 where
-  pub ready : ListReady h.precision h.sparse_precision h (take h.sparse_len sparse) [] vs
+pub record InsertInPre (h : Accumulator) (registers sparse scratch : List ℕ) (k : ℕ) : Type 0 where
+  pub inside : k ≤ length scratch
+  pub ready : ListReady h.precision h.sparse_precision h (take h.sparse_len sparse) [] (take k scratch)
   pub none : h.pending_len ≡ 0
   pub distinct : distinct_slots h.precision h.sparse_precision (take h.sparse_len sparse) ≡ true
-  pub in_sparse : h.sparse_len + length vs ≤ length sparse
+  pub in_sparse : h.sparse_len + k ≤ length sparse
   pub in_registers : register_bytes h.precision ≤ length registers
 
 -- Two lists that are to be set.
 pub record SetListsPre (enc : Encoding) (kept waiting bytes : List ℕ) : Type 0 where
-  pub fits : SparseFits enc
   pub kept_valid : all_valid enc.normal_precision enc.sparse_precision kept ≡ true
   pub waiting_valid : all_valid enc.normal_precision enc.sparse_precision waiting ≡ true
   pub room : register_bytes enc.normal_precision ≤ length bytes
 
 -- Two lists that can be set, and a row of registers of the same precision.
-pub record DensifyPre (h : Accumulator) (registers kept waiting row : List ℕ) : Type 0 where
+pub record DensifyPre (h : Accumulator) (registers sparse pending row : List ℕ) : Type 0 where
   pub pair : Pair h.precision h.sparse_precision
-  pub kept_valid : all_valid h.precision h.sparse_precision kept ≡ true
-  pub waiting_valid : all_valid h.precision h.sparse_precision waiting ≡ true
+  pub kept_in : h.sparse_len ≤ length sparse
+  pub waiting_in : h.pending_len ≤ length pending
+  pub kept_valid : all_valid h.precision h.sparse_precision (take h.sparse_len sparse) ≡ true
+  pub waiting_valid : all_valid h.precision h.sparse_precision (take h.pending_len pending) ≡ true
   pub room : register_bytes h.precision ≤ length registers
   pub size : length row ≡ 2 ^ h.precision
 
@@ -182,14 +182,12 @@ pub record RaisePre (q : ℕ) (x : Incoming) (row vs registers : List ℕ) : Typ
   pub lowers : Lowers x row vs
   pub room : register_bytes q ≤ length registers
 
-pub record DensePre (a : Accumulator) (registers : List ℕ) (x : Incoming) (row vs : List ℕ) : Type 0 where
+pub record DensePre (a : Accumulator) (registers scratch : List ℕ) (x : Incoming) (row : List ℕ) (k : ℕ) : Type 0 where
+  pub inside : k ≤ length scratch
   pub own_low : 4 ≤ a.precision
   pub own : LowerOwnPre a.precision registers
   pub low : 4 ≤ x.precision
-  pub lowers : Lowers x row vs
-
-pub record DensePost (a : Accumulator) (registers : List ℕ) (x : Incoming) (row vs : List ℕ) (r : Accumulator) (after : List ℕ) : Type 0 where
-  pub shows : (sparse pending : List ℕ) → Shows (dense_after a (mem registers sparse pending) x row vs) r (mem after sparse pending)
+  pub lowers : Lowers x row (take k scratch)
 
 -- ---- taking in (src/taking)
 
@@ -216,7 +214,7 @@ pub record TakePre (a : Accumulator) (m : Mem) (room : ℕ) (x : Incoming) (row 
   pub most : x.most ≤ max_pending
 
 -- The first k cells of `scratch` are the values, and the path is theirs.
-pub record TakingPre (a : Accumulator) (m : Mem) (scratch : List ℕ) (x : Incoming) (path : Path) (row : List ℕ) (k : ℕ) : Type 0 where
+pub record TakingPre (a : Accumulator) (m : Mem) (scratch : List ℕ) (x : Incoming) (path : Option Path) (row : List ℕ) (k : ℕ) : Type 0 where
   pub inside : k ≤ length scratch
   pub taken : TakePre a m (length scratch) x row (take k scratch)
   pub its : path ≡ path_of a.form a (kept_of a m) x k
@@ -229,13 +227,13 @@ pub record Sound (a : Accumulator) (distinct : Bool) (m : Mem) : Type 0 where
   pub known : KnownDistinct distinct a.precision a.sparse_precision (kept_of a m)
 
 -- What is known of the list after a path, by the form before. A merge leaves distinct values; where there was none, the list is as it was. Of a first list nothing is known.
-abbrev pub distinct_after : Form → Path → Bool → Bool
+abbrev pub distinct_after : Form → Option Path → Bool → Bool
 distinct_after Unstarted path known = false
 distinct_after Sparse None known = known
-distinct_after Sparse Waits known = known
-distinct_after Sparse Sorts known = true
-distinct_after Sparse Inserts known = true
-distinct_after Sparse Merges known = true
+distinct_after Sparse (Some Waits) known = known
+distinct_after Sparse (Some Sorts) known = true
+distinct_after Sparse (Some Inserts) known = true
+distinct_after Sparse (Some Merges) known = true
 distinct_after Dense path known = known
 
 -- Every question is answered with yes, and the first k cells of `scratch` are the values of the list.
@@ -244,19 +242,13 @@ pub record AcceptPre (a : Accumulator) (distinct : Bool) (m : Mem) (scratch : Li
   pub taken : TakePre a m (length scratch) (state_numbers st (take k scratch)) (data_of st) (take k scratch)
   pub known : KnownDistinct distinct a.precision a.sparse_precision (kept_of a m)
 
--- Document 01's number of a refusal.
-abbrev pub decoded_refusal : Decoded → ℕ
-decoded_refusal (Done k) = 0
-decoded_refusal (Refused n) = n
-
 -- What an accepted state leaves, and what is known afterwards.
-pub record AcceptPost (a : Accumulator) (m : Mem) (st : State) (vs : List ℕ) (r : AddedFitting) (n : Mem) : Type 0 where
-  pub answer : r.answer ≡ 0
+pub record AcceptPost (a : Accumulator) (m : Mem) (st : State) (vs : List ℕ) (r : Fitted) (n : Mem) : Type 0 where
   pub after : Shows (accepted_after a.form a m st vs) r.head n
   pub known : KnownDistinct r.distinct r.head.precision r.head.sparse_precision (kept_of r.head n)
 
 -- What adding promises of a head that fits: what it promises of any, and what is known afterwards. When `distinct` is said is free: it changes no answer, and saves an
 -- insertion a walk over the list.
-pub record FittingPost (a : Accumulator) (m : Mem) (room : ℕ) (bytes : List ℕ) (r : AddedFitting) (n : Mem) : Type 0 where
-  pub added : AddPost a m room bytes (record { answer = r.answer; head = r.head }) n
+pub record FittingPost (a : Accumulator) (m : Mem) (room : ℕ) (bytes : List ℕ) (answer : ℕ) (r : Fitted) (n : Mem) : Type 0 where
+  pub added : AddPost a m room bytes answer r.head n
   pub sound : Sound r.head r.distinct n

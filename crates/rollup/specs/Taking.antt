@@ -1,6 +1,6 @@
 -- Taking in (document 01, module 6): what a roll-up is left as by what comes to it, path by path. What comes is numbers (`Incoming`) with a row of registers, a byte each, or
 -- with values; an empty row is none. A state is one case of it: `state_numbers` in specs/Adding.
-use Rattle.std.specs.Prelude.{◌≡◌, ℕ, ◌+◌, ◌-◌, ◌*◌, ◌%◌, ◌^◌, min, Bool, cond, not, ◌&&◌, List, [], ◌++◌, length, ◌==◌, bit_and, nat_le, nat_lt}
+use Rattle.std.specs.Prelude.{◌≡◌, ℕ, Option, Some, None, ◌+◌, ◌-◌, ◌*◌, ◌%◌, ◌^◌, min, Bool, cond, not, ◌&&◌, List, [], ◌++◌, length, ◌==◌, bit_and, nat_le, nat_lt}
 use mathlib.Core.List.{Permᴰ}
 use Rattle.lists.specs.Lists.{merged, written, distinct_slots}
 use Rattle.lists.specs.Registers.{registers_of, with_registers, zeros, raised_by, raised_lower, larger, lowered, with_freed}
@@ -9,7 +9,7 @@ use Rattle.rollup.specs.declared.accumulator.Form.TheVariants.{Unstarted, Sparse
 use Rattle.rollup.specs.declared.accumulator.Accumulator.{Accumulator}
 use Rattle.rollup.specs.declared.incoming.Incoming.{Incoming}
 use Rattle.rollup.specs.declared.paths.Path.{Path}
-use Rattle.rollup.specs.declared.paths.Path.TheVariants.{None, Waits, Sorts, Inserts, Merges}
+use Rattle.rollup.specs.declared.paths.Path.TheVariants.{Waits, Sorts, Inserts, Merges}
 use Rattle.rollup.specs.Accumulator.{Mem, kept_of, waiting_of, limit, waiting_bound, head_with}
 use Rattle.rollup.specs.Header.{is_empty}
 
@@ -119,12 +119,12 @@ abbrev pub inserts : Accumulator → List ℕ → ℕ → Bool
 inserts a kept k = nat_le k 16 && nat_le (16 * k) a.sparse_len && distinct_slots a.precision a.sparse_precision kept
 
 -- The path of k values: they wait; "else, with values waiting, all are sorted and merged"; else they are inserted, or merged. Without values there is none.
-abbrev pub list_path : Accumulator → List ℕ → Incoming → ℕ → Path
+abbrev pub list_path : Accumulator → List ℕ → Incoming → ℕ → Option Path
 list_path a kept x k =
     cond (k == 0) None
-    (cond (waits a x k) Waits (cond (not (a.pending_len == 0)) Sorts (cond (inserts a kept k) Inserts Merges)))
+    (cond (waits a x k) (Some Waits) (cond (not (a.pending_len == 0)) (Some Sorts) (cond (inserts a kept k) (Some Inserts) (Some Merges))))
 
-abbrev pub path_of : Form → Accumulator → List ℕ → Incoming → ℕ → Path
+abbrev pub path_of : Form → Accumulator → List ℕ → Incoming → ℕ → Option Path
 path_of Unstarted a kept x k = None
 path_of Sparse a kept x k = list_path a kept x k
 path_of Dense a kept x k = None
@@ -144,12 +144,12 @@ as_waiting h m vs =
     }
 
 -- What each path leaves. An insertion: "the list is the merge's, kept bytes change by the change in written length."
-unfoldable pub list_after : Path → Accumulator → Mem → List ℕ → After
+unfoldable pub list_after : Option Path → Accumulator → Mem → List ℕ → After
 list_after None h m vs = unchanged h m
-list_after Waits h m vs = as_waiting h m vs
-list_after Sorts h m vs = settle h m.registers (all_merged h m vs) (written (all_merged h m vs))
-list_after Inserts h m vs = settle h m.registers (all_merged h m vs) (h.sparse_bytes + written (all_merged h m vs) - written (kept_of h m))
-list_after Merges h m vs = settle h m.registers (all_merged h m vs) (written (all_merged h m vs))
+list_after (Some Waits) h m vs = as_waiting h m vs
+list_after (Some Sorts) h m vs = settle h m.registers (all_merged h m vs) (written (all_merged h m vs))
+list_after (Some Inserts) h m vs = settle h m.registers (all_merged h m vs) (h.sparse_bytes + written (all_merged h m vs) - written (kept_of h m))
+list_after (Some Merges) h m vs = settle h m.registers (all_merged h m vs) (written (all_merged h m vs))
 
 -- "Data turns a sparse roll-up dense first, waiting values set too, with those three numbers and the waiting count 0."
 abbrev pub row_taken : Accumulator → Mem → List ℕ → After

@@ -8,7 +8,6 @@ use Rattle.lists.specs.Registers.{registers_of}
 use Rattle.rollup.specs.declared.accumulator.Form.{Form}
 use Rattle.rollup.specs.declared.accumulator.Form.TheVariants.{Unstarted, Sparse, Dense}
 use Rattle.rollup.specs.declared.accumulator.Accumulator.{Accumulator}
-use Rattle.rollup.specs.declared.writing.Written.{Written}
 use Rattle.rollup.specs.Accumulator.{Mem, kept_of, waiting_of, limit, fits, is_started}
 use Rattle.rollup.specs.Header.{state_type, state_version}
 use Rattle.rollup.specs.Taking.{unchanged, Shows, Free}
@@ -74,9 +73,9 @@ write_outcome a m room space =
 
 -- The answer, how many bytes were written, and the output: those bytes in front of what was there. `unchanged`: register bytes and kept are as they
 -- were, waiting has its values in some order. That order, `scratch`, and cells past the counts are free.
-pub record WritePost (a : Accumulator) (m : Mem) (room : ℕ) (out : List ℕ) (r : Written) (n : Mem) (after : List ℕ) : Type 0 where
-  pub answer : r.answer ≡ (write_outcome a m room (length out)).answer
-  pub len : r.len ≡ length (write_outcome a m room (length out)).bytes
+pub record WritePost (a : Accumulator) (m : Mem) (room : ℕ) (out : List ℕ) (answer len : ℕ) (n : Mem) (after : List ℕ) : Type 0 where
+  pub answered : answer ≡ (write_outcome a m room (length out)).answer
+  pub counted : len ≡ length (write_outcome a m room (length out)).bytes
   pub output : after ≡ (write_outcome a m room (length out)).bytes ++ drop (length (write_outcome a m room (length out)).bytes) out
   pub same : Shows (unchanged a m) a n
   pub free : Free m n

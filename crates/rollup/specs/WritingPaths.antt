@@ -5,19 +5,17 @@ use Rattle.wire.specs.declared.state.Fields.{Fields}
 use Rattle.wire.specs.Encoding.{Output, encode_step}
 use Rattle.lists.specs.declared.values.Sparse.{Sparse as Encoding}
 use Rattle.lists.specs.declared.merging.Merged.{Merged}
-use Rattle.lists.specs.Values.{SparseFits}
 use Rattle.lists.specs.Sorting.{ascends, sort_of}
 use Rattle.lists.specs.Lists.{all_valid, written, encode_list, MergePost}
 use Rattle.rollup.specs.declared.accumulator.Accumulator.{Accumulator}
-use Rattle.rollup.specs.declared.writing.Written.{Written}
 use Rattle.rollup.specs.Accumulator.{limit}
 use Rattle.rollup.specs.Header.{state_type, state_version}
 use Rattle.rollup.specs.Writing.{state_with, unless}
 
 -- What was to be written stands in front of what was there.
-pub record Writes (x : Output) (out : List ℕ) (r : Written) (after : List ℕ) : Type 0 where
-  pub answer : r.answer ≡ x.answer
-  pub len : r.len ≡ length x.bytes
+pub record Writes (x : Output) (out : List ℕ) (answer len : ℕ) (after : List ℕ) : Type 0 where
+  pub answered : answer ≡ x.answer
+  pub counted : len ≡ length x.bytes
   pub output : after ≡ x.bytes ++ drop (length x.bytes) out
 
 -- The fields of a state of the head's numbers: either field 5 or field 6 is there. Its bytes are the first that are lent; where other bytes
@@ -55,7 +53,6 @@ pub record ValuesPre (a : Accumulator) (l : List ℕ) (bytes : ℕ) : Type 0 whe
 
 -- The values kept, and the first w of `pending`, can be merged into `scratch`.
 pub record FlushPre (enc : Encoding) (kept pending : List ℕ) (w : ℕ) (scratch : List ℕ) : Type 0 where
-  pub fits : SparseFits enc
   pub order : ascends kept ≡ true
   pub kept_valid : all_valid enc.normal_precision enc.sparse_precision kept ≡ true
   pub waiting_valid : all_valid enc.normal_precision enc.sparse_precision (take w pending) ≡ true

@@ -1,62 +1,43 @@
 // Adding a state. Ported from `Accumulator::add_view` in src/accumulator.rs of zetasketch-rs at commit 9abe68bf87 (Apache-2.0, see NOTICE). Changed:
-// every question is asked before anything but `scratch` is written, a refusal is document 01's number, and the accumulator goes in and
-// comes out by value beside its lent memory.
-ghost use Rattle.std.specs.Prelude.{◌≡◌, ℕ, ◌≤◌, List, length, take};
-ghost use Rattle.wire.specs.State.{state_of};
-ghost use Rattle.rollup.specs.Accumulator.{mem};
+// every question is asked before anything but `scratch` is written, a refusal has document 01's number, and the memory is lent.
+ghost use Rattle.std.specs.Prelude.{◌≡◌, ◌≤◌, length, take};
+ghost use Rattle.rollup.specs.Header.{viewed, list_of};
+ghost use Rattle.rollup.specs.Refusals.{answer_of};
+ghost use Rattle.rollup.specs.Accumulator.{kept_of};
+ghost use Rattle.rollup.specs.Lent.{mem_of, SameLent};
 ghost use Rattle.rollup.specs.Adding.{numbers_of, AddPost};
-ghost use Rattle.rollup.specs.Stages.{AcceptPre, decoded_refusal, distinct_after, Sound, AcceptPost, FittingPost};
+ghost use Rattle.rollup.specs.Stages.{AcceptPre, distinct_after, Sound, AcceptPost, FittingPost};
 
 use crate::accumulator::{Accumulator, Form, MAX_PENDING};
 use crate::incoming::Incoming;
-use crate::judging::Judged;
+use crate::memory::Memory;
 use crate::paths::Path;
-use crate::{fitting, header, judging, paths, taking};
-use lists::decoding::Decoded;
-use wire::state;
-use wire::state::Fields;
+use crate::refusal::Refusal;
+use crate::{header, judging};
+use wire::view::StateView;
 
-// The answer's number, 0 for accepted, and the accumulator after the call.
-#[derive(Clone, Copy)]
-pub struct Added {
-    pub answer: u8,
-    pub head: Accumulator,
-}
-
-// The same of a head that fits, and what is known of the list that is kept: `distinct` says that it is one that a merge can leave. An insertion need not walk such a
+// A head that fits its memory, and what is known of the list that is kept: `distinct` says that it is one that a merge can leave. An insertion need not walk such a
 // list first. New: the Rust inserts without looking (document 01, "Difference").
-#[derive(Clone, Copy)]
-pub struct AddedFitting {
-    pub answer: u8,
+#[derive(Clone, Copy, Debug, PartialEq, Eq)]
+pub struct Fitted {
     pub head: Accumulator,
     pub distinct: bool,
 }
 
-// Document 01's number of a refusal, for the `else` of a `let`.
-fn decoded_refusal(r: Decoded) -> u8
-    ensures { result ≡ decoded_refusal r }
-{
-    match r {
-        Decoded::Done(_) => 0,
-        Decoded::Refused(n) => n,
-    }
-}
-
-// The numbers of a state with so many list bytes and values.
-fn state_numbers(f: Fields, list_bytes: usize, k: usize) -> Incoming
+// The numbers of a state whose list has k values.
+fn state_numbers(view: StateView, k: usize) -> Incoming
     requires { k ≤ 2147483647 }
-    ensures { (s : List ℕ) → result ≡ numbers_of (state_of s f) list_bytes k }
+    ensures { result ≡ numbers_of (viewed view.entry) (length (list_of (viewed view.entry))) k }
 {
-    let h = f.hll;
-    let mask = header::allowed_types(f.value_type);
+    let fields = view.fields;
     Incoming {
-        mask,
-        value_type: f.value_type,
-        num_values: f.num_values,
-        precision: h.precision,
-        sparse_precision: h.sparse_precision,
-        sparse_size: h.sparse_size,
-        list_bytes,
+        mask: header::allowed_types(fields.value_type),
+        value_type: fields.value_type,
+        num_values: fields.num_values,
+        precision: fields.hll.precision,
+        sparse_precision: fields.hll.sparse_precision,
+        sparse_size: fields.hll.sparse_size,
+        list_bytes: view.sparse_data().len(),
         growth: 5 * k,
         most: MAX_PENDING,
     }
@@ -64,118 +45,73 @@ fn state_numbers(f: Fields, list_bytes: usize, k: usize) -> Incoming
 
 // What is known of the list after a path, by the form before. All values of a merge are distinct; where there was none, the list is as it was. Of a first list
 // nothing is known.
-fn distinct_after(before: Form, path: Path, known: bool) -> bool
+fn distinct_after(before: Form, path: Option<Path>, known: bool) -> bool
     ensures { result ≡ distinct_after before path known }
 {
-    match before {
-        Form::Unstarted => false,
-        Form::Sparse => match path {
-            Path::None => known,
-            Path::Waits => known,
-            Path::Sorts => true,
-            Path::Inserts => true,
-            Path::Merges => true,
-        },
-        Form::Dense => known,
+    match (before, path) {
+        (Form::Unstarted, _) => false,
+        (Form::Sparse, Some(Path::Sorts | Path::Inserts | Path::Merges)) => true,
+        _ => known,
     }
 }
 
-// A state that is accepted takes its path. The first k cells of `scratch` hold the values of its list.
-fn accept(
-    a: Accumulator,
-    distinct: bool,
-    f: Fields,
-    bytes: &[u8],
-    registers: &mut [u8],
-    sparse: &mut [u32],
-    pending: &mut [u32],
-    scratch: &mut [u32],
-    k: usize,
-) -> AddedFitting
-    requires { AcceptPre a distinct (mem registers.old sparse.old pending.old) scratch.old (state_of bytes.now f) k }
-    ensures { AcceptPost a (mem registers.old sparse.old pending.old) (state_of bytes.now f) (take k scratch.old) result (mem registers.new sparse.new pending.new) }
-{
-    let list = state::sparse_data(bytes, f);
-    let x = state_numbers(f, list.len(), k);
-    let path = paths::path_of(a, x, &sparse[..a.sparse_len], k, distinct);
-    let before = a.form;
-    let known = distinct_after(before, path, distinct);
-    let row = state::data(bytes, f);
-    let head = taking::take(a, x, path, registers, sparse, pending, scratch, row, k);
-    AddedFitting {
-        answer: 0,
-        head,
-        distinct: known,
+impl Accumulator {
+    // The values that are kept.
+    fn kept<'a>(self, memory: &'a Memory) -> &'a [u32]
+        requires { self.sparse_len ≤ length memory.now.sparse.now }
+        ensures { result.now ≡ kept_of self (mem_of memory.now) }
+    {
+        &memory.sparse[..self.sparse_len]
     }
 }
 
-// Questions 2 to 20, of a head that fits, and then the path.
-pub fn add_fitting(
-    a: Accumulator,
-    distinct: bool,
-    registers: &mut [u8],
-    sparse: &mut [u32],
-    pending: &mut [u32],
-    scratch: &mut [u32],
-    bytes: &[u8],
-) -> AddedFitting
-    requires { Sound a distinct (mem registers.old sparse.old pending.old) }
-    ensures { FittingPost a (mem registers.old sparse.old pending.old) (length scratch.old) bytes.now result (mem registers.new sparse.new pending.new) }
-{
-    let judged = judging::judge(a, bytes);
-    let Judged::State(f) = judged else {
-        return AddedFitting {
-            answer: judging::judged_refusal(judged),
-            head: a,
-            distinct,
-        };
-    };
-    if !judging::has_room(
-        a,
-        f,
-        bytes,
-        &registers[..],
-        &sparse[..],
-        &pending[..],
-        &scratch[..],
-    ) {
-        return AddedFitting {
-            answer: 17,
-            head: a,
-            distinct,
-        };
+impl Fitted {
+    // A state that is accepted takes its path. The first k cells of `scratch` hold the values of its list.
+    fn accept(self, view: StateView, memory: &mut Memory, k: usize) -> Fitted
+        requires { AcceptPre self.head self.distinct (mem_of memory.old) memory.old.scratch.now (viewed view) k }
+        ensures post { AcceptPost self.head (mem_of memory.old) (viewed view.entry) (take k memory.old.scratch.now) result (mem_of memory.new) }
+        ensures same { SameLent memory.old memory.new }
+    {
+        let a = self.head;
+        let x = state_numbers(view, k);
+        let path = a.path_of(x, a.kept(memory), k, self.distinct);
+        Fitted {
+            head: a.take(x, path, memory, view.data(), k),
+            distinct: distinct_after(a.form, path, self.distinct),
+        }
     }
-    let read = judging::decode_listed(bytes, f, scratch);
-    let Decoded::Done(k) = read else {
-        return AddedFitting {
-            answer: decoded_refusal(read),
-            head: a,
-            distinct,
-        };
-    };
-    accept(
-        a, distinct, f, bytes, registers, sparse, pending, scratch, k,
-    )
+
+    // Adds a state: questions 2 to 20, and then the path. After a refusal all is as it was.
+    pub fn add(&mut self, memory: &mut Memory, bytes: &[u8]) -> Result<(), Refusal>
+        requires { Sound self.old.head self.old.distinct (mem_of memory.old) }
+        ensures post { FittingPost self.old.head (mem_of memory.old) (length memory.old.scratch.now) bytes.now (answer_of result) self.new (mem_of memory.new) }
+        ensures same { SameLent memory.old memory.new }
+    {
+        let view = self.head.judge(bytes)?;
+        if !self.head.has_room(view, memory) {
+            return Err(Refusal::NoRoom);
+        }
+        let k = judging::decode_listed(view, memory.scratch)?;
+        *self = self.accept(view, memory, k);
+        Ok(())
+    }
 }
 
-// Adds a state to a roll-up: document 01's questions in their order, and then the path.
-pub fn add(
-    a: Accumulator,
-    registers: &mut [u8],
-    sparse: &mut [u32],
-    pending: &mut [u32],
-    scratch: &mut [u32],
-    bytes: &[u8],
-) -> Added
-    ensures { AddPost a (mem registers.old sparse.old pending.old) (length scratch.old) bytes.now result (mem registers.new sparse.new pending.new) }
-{
-    if !fitting::fits(a, &registers[..], &sparse[..], &pending[..]) {
-        return Added { answer: 1, head: a };
-    }
-    let r = add_fitting(a, false, registers, sparse, pending, scratch, bytes);
-    let head = r.head;
-    Added {
-        answer: r.answer,
-        head,
+impl Accumulator {
+    // Adds a state to a roll-up: document 01's questions in their order, and then the path. After a refusal all is as it was.
+    pub fn add(&mut self, memory: &mut Memory, bytes: &[u8]) -> Result<(), Refusal>
+        ensures post { AddPost self.old (mem_of memory.old) (length memory.old.scratch.now) bytes.now (answer_of result) self.new (mem_of memory.new) }
+        ensures same { SameLent memory.old memory.new }
+    {
+        if !self.fits_in(memory) {
+            return Err(Refusal::Misfit);
+        }
+        let mut fitted = Fitted {
+            head: *self,
+            distinct: false,
+        };
+        let answer = fitted.add(memory, bytes);
+        *self = fitted.head;
+        answer
     }
 }

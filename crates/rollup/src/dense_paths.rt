@@ -1,14 +1,15 @@
 // The paths of a dense roll-up. Ported from `merge_into_dense_any_precision` in src/accumulator.rs of zetasketch-rs at commit 9abe68bf87 (Apache-2.0,
 // see NOTICE). Changed: lent slices in the place of `Vec`, registers lowered in place, a function for the roll-up's own registers and one for each kind of
 // what comes in, and a contract on every function.
-ghost use Rattle.std.specs.Prelude.{◌≡◌, ◌-◌};
+ghost use Rattle.std.specs.Prelude.{◌≡◌, ◌-◌, take};
 ghost use Rattle.lists.specs.Registers.{registers_of, with_registers, larger, lowered, raised_lower};
-ghost use Rattle.rollup.specs.Taking.{signed_min, dense_head, raised_to};
-ghost use Rattle.rollup.specs.Stages.{LowerOwnPre, LowerOwnPost, RaiseByRowPre, RaiseByListPre, RaisePre, DensePre, DensePost};
+ghost use Rattle.rollup.specs.Taking.{signed_min, raised_to, dense_after, Shows};
+ghost use Rattle.rollup.specs.Lent.{mem_of, SameLent};
+ghost use Rattle.rollup.specs.Stages.{LowerOwnPre, LowerOwnPost, RaiseByRowPre, RaiseByListPre, RaisePre, DensePre};
 
 use crate::accumulator::{Accumulator, Form};
-use crate::incoming;
 use crate::incoming::Incoming;
+use crate::memory::Memory;
 use lists::registers;
 use lists::values::Sparse;
 
@@ -16,9 +17,7 @@ use lists::values::Sparse;
 fn signed_min(x: u32, y: u32) -> u32
     ensures { result ≡ signed_min x y }
 {
-    let a = std::num::wrapping_add_u32(x, 0x8000_0000);
-    let b = std::num::wrapping_add_u32(y, 0x8000_0000);
-    if b < a { y } else { x }
+    x.cast_signed().min(y.cast_signed()).cast_unsigned()
 }
 
 // The roll-up's registers become those of the smaller precision, which is the answer.
@@ -40,9 +39,9 @@ fn raise_by_row(registers: &mut [u8], q: u32, row: &[u8], p: u32)
 {
     if q < p {
         registers::downgrade_registers_max_into(row, p - q, registers, q);
-        return;
+    } else {
+        registers::max_into(registers, row, q);
     }
-    registers::max_into(registers, row, q);
 }
 
 // Values of precisions p and s raise registers of precision q.
@@ -50,12 +49,7 @@ fn raise_by_list(registers: &mut [u8], q: u32, p: u32, s: u32, values: &[u32])
     requires { RaiseByListPre q p s values.now registers.old }
     ensures { registers.new ≡ with_registers q (raised_lower p s (p - q) (registers_of q registers.old) values.now) registers.old }
 {
-    let enc = Sparse::new(p, s);
-    if q < p {
-        registers::set_registers_lower(registers, enc, p - q, values);
-        return;
-    }
-    registers::set_registers(registers, enc, values);
+    registers::set_registers(registers, Sparse::new(p, s), p - q, values);
 }
 
 // A row or values raise registers of precision q.
@@ -65,43 +59,35 @@ fn raise(registers: &mut [u8], q: u32, x: Incoming, row: &[u8], values: &[u32])
 {
     if row.len() == 0 {
         raise_by_list(registers, q, x.precision, x.sparse_precision, values);
-        return;
-    }
-    raise_by_row(registers, q, row, x.precision);
-}
-
-// The head after it: the smaller of each precision. Its kept bytes, which question 1 does not ask for, stay as they are.
-fn dense_head(h: Accumulator, q: u32, s: u32) -> Accumulator
-    ensures { result ≡ dense_head h.allowed h.value_type h.num_values q s h.sparse_size h.sparse_bytes }
-{
-    let form = Form::Dense;
-    Accumulator {
-        form,
-        allowed: h.allowed,
-        value_type: h.value_type,
-        num_values: h.num_values,
-        precision: q,
-        sparse_precision: s,
-        sparse_size: h.sparse_size,
-        sparse_len: 0,
-        sparse_bytes: h.sparse_bytes,
-        pending_len: 0,
+    } else {
+        raise_by_row(registers, q, row, x.precision);
     }
 }
 
-// What comes to a dense roll-up.
-pub(crate) fn accept_dense(
-    a: Accumulator,
-    x: Incoming,
-    registers: &mut [u8],
-    row: &[u8],
-    values: &[u32],
-) -> Accumulator
-    requires { DensePre a registers.old x row.now values.now }
-    ensures { DensePost a registers.old x row.now values.now result registers.new }
-{
-    let q = lower_own(registers, a.precision, x.precision);
-    raise(registers, q, x, row, values);
-    let s = signed_min(a.sparse_precision, x.sparse_precision);
-    dense_head(incoming::counted(a, x), q, s)
+impl Accumulator {
+    // What comes to a dense roll-up. The head has the smaller of each precision then. Its kept bytes, which question 1 does not ask for, stay as they are.
+    pub(crate) fn accept_dense(
+        self,
+        x: Incoming,
+        memory: &mut Memory,
+        row: &[u8],
+        k: usize,
+    ) -> Accumulator
+        requires { DensePre self memory.old.registers.now memory.old.scratch.now x row.now k }
+        ensures shows { Shows (dense_after self (mem_of memory.old) x row.now (take k memory.old.scratch.now)) result (mem_of memory.new) }
+        ensures same { SameLent memory.old memory.new }
+    {
+        let (registers, scratch) = (&mut *memory.registers, &mut *memory.scratch);
+        let values = &scratch[..];
+        let q = lower_own(registers, self.precision, x.precision);
+        raise(registers, q, x, row, &values[..k]);
+        Accumulator {
+            form: Form::Dense,
+            precision: q,
+            sparse_precision: signed_min(self.sparse_precision, x.sparse_precision),
+            sparse_len: 0,
+            pending_len: 0,
+            ..self.counted(x)
+        }
+    }
 }

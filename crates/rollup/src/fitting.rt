@@ -3,30 +3,19 @@
 ghost use Rattle.std.specs.Prelude.{◌≡◌, ◌≤◌, []};
 ghost use Rattle.lists.specs.Values.{Pair};
 ghost use Rattle.rollup.specs.Accumulator.{mem, limit, max_pending, ranges_fit, no_lists, waiting_bound, waiting_fits, counts_fit, lists_fit, registers_fit, sparse_fits, dense_fits, fits as headFits};
+ghost use Rattle.rollup.specs.Lent.{mem_of};
 
 use crate::accumulator::{Accumulator, Form, MAX_PENDING};
 use crate::header;
+use crate::memory::Memory;
 use lists::registers::{largest_register, register_bytes};
 use lists::{checking, merging, values};
-
-// Whether both counts are 0.
-fn no_lists(a: Accumulator) -> bool
-    ensures { result ≡ no_lists a }
-{
-    if a.sparse_len != 0 {
-        return false;
-    }
-    a.pending_len == 0
-}
 
 // Whether the precisions are those that a list can have.
 fn ranges_fit(p: u32, s: u32) -> bool
     ensures { result ≡ ranges_fit p s }
 {
-    if !header::check_normal_precision(p) {
-        return false;
-    }
-    header::check_sparse_precision(p, s)
+    header::check_normal_precision(p) && header::check_sparse_precision(p, s)
 }
 
 // The number of bytes from which on a list turns dense, document 01's L. Ported from `max_sparse_bytes` in src/accumulator.rs of zetasketch-rs at commit
@@ -38,110 +27,100 @@ pub(crate) fn size_limit(p: u32) -> usize
     3 * (1 << (p - 2))
 }
 
-// Kept bytes, and five for each value that waits.
-pub(crate) fn waiting_bound(a: Accumulator) -> usize
-    requires { (a.pending_len ≤ max_pending) × (a.sparse_bytes ≤ 2147483647) }
-    ensures { (result ≡ waiting_bound a) × (result ≤ 2147493887) }
-{
-    a.sparse_bytes + 5 * a.pending_len
-}
-
-// Whether the values that wait leave the list below the limit.
-fn waiting_fits(a: Accumulator) -> bool
-    requires { (4 ≤ a.precision) × (a.precision ≤ 24) × (a.pending_len ≤ max_pending) × (a.sparse_bytes ≤ 2147483647) }
-    ensures { result ≡ waiting_fits a }
-{
-    if a.pending_len == 0 {
-        return true;
-    }
-    waiting_bound(a) < size_limit(a.precision)
-}
-
-// Whether the counts fit lists of `cells` and `waiting_cells` cells, and each other.
-fn counts_fit(a: Accumulator, cells: usize, waiting_cells: usize) -> bool
-    requires { (4 ≤ a.precision) × (a.precision ≤ 24) }
-    ensures { result ≡ counts_fit a cells waiting_cells }
-{
-    if a.sparse_len > cells {
-        return false;
-    }
-    if a.pending_len > waiting_cells {
-        return false;
-    }
-    if a.pending_len > MAX_PENDING {
-        return false;
-    }
-    if a.sparse_bytes > 2147483647 {
-        return false;
-    }
-    waiting_fits(a)
-}
-
-// Whether the values are valid, those kept in order, and their bytes counted.
-fn lists_fit(a: Accumulator, kept: &[u32], waiting: &[u32]) -> bool
-    requires { Pair a.precision a.sparse_precision }
-    ensures { result ≡ lists_fit a kept.now waiting.now }
-{
-    let enc = values::Sparse::new(a.precision, a.sparse_precision);
-    if !checking::all_valid(enc, waiting) {
-        return false;
-    }
-    if !checking::is_ascending(kept) {
-        return false;
-    }
-    if !checking::all_valid_ascending(enc, kept) {
-        return false;
-    }
-    merging::written_len(kept) <= a.sparse_bytes
-}
-
-// Whether a list roll-up fits. Of the memory only the two lists count.
-fn sparse_fits(a: Accumulator, sparse: &[u32], pending: &[u32]) -> bool
-    ensures { result ≡ sparse_fits a (mem [] sparse.now pending.now) }
-{
-    if !ranges_fit(a.precision, a.sparse_precision) {
-        return false;
-    }
-    if !counts_fit(a, sparse.len(), pending.len()) {
-        return false;
-    }
-    lists_fit(a, &sparse[..a.sparse_len], &pending[..a.pending_len])
-}
-
 // Whether the registers of a precision are there, and none is too large.
 fn registers_fit(p: u32, registers: &[u8]) -> bool
     requires { (4 ≤ p) × (p ≤ 24) }
     ensures { result ≡ registers_fit p registers.now }
 {
-    if registers.len() < register_bytes(p) {
-        return false;
-    }
-    largest_register(registers, p) <= values::largest_rank(p)
+    register_bytes(p) <= registers.len()
+        && largest_register(registers, p) <= values::largest_rank(p)
 }
 
-// Whether a dense roll-up fits. Of the memory only the registers count.
-fn dense_fits(a: Accumulator, registers: &[u8]) -> bool
-    ensures { result ≡ dense_fits a (mem registers.now [] []) }
-{
-    if !header::check_normal_precision(a.precision) {
-        return false;
+impl Accumulator {
+    // Whether both counts are 0.
+    fn no_lists(self) -> bool
+        ensures { result ≡ no_lists self }
+    {
+        self.sparse_len == 0 && self.pending_len == 0
     }
-    if a.sparse_precision == 0 {
-        return false;
-    }
-    if !no_lists(a) {
-        return false;
-    }
-    registers_fit(a.precision, registers)
-}
 
-pub fn fits(a: Accumulator, registers: &[u8], sparse: &[u32], pending: &[u32]) -> bool
-    ensures { result ≡ headFits a (mem registers.now sparse.now pending.now) }
-{
-    let form = a.form;
-    match form {
-        Form::Unstarted => no_lists(a),
-        Form::Sparse => sparse_fits(a, sparse, pending),
-        Form::Dense => dense_fits(a, registers),
+    // Kept bytes, and five for each value that waits.
+    pub(crate) fn waiting_bound(self) -> usize
+        requires { (self.pending_len ≤ max_pending) × (self.sparse_bytes ≤ 2147483647) }
+        ensures { (result ≡ waiting_bound self) × (result ≤ 2147493887) }
+    {
+        self.sparse_bytes + 5 * self.pending_len
+    }
+
+    // Whether the values that wait leave the list below the limit.
+    fn waiting_fits(self) -> bool
+        requires { (4 ≤ self.precision) × (self.precision ≤ 24) × (self.pending_len ≤ max_pending) × (self.sparse_bytes ≤ 2147483647) }
+        ensures { result ≡ waiting_fits self }
+    {
+        self.pending_len == 0 || self.waiting_bound() < size_limit(self.precision)
+    }
+
+    // Whether the counts fit lists of `cells` and `waiting_cells` cells, and each other.
+    #[tactic(auto, unfolding(crate::specs::Accumulator::counts_fit))]
+    fn counts_fit(self, cells: usize, waiting_cells: usize) -> bool
+        requires { (4 ≤ self.precision) × (self.precision ≤ 24) }
+        ensures { result ≡ counts_fit self cells waiting_cells }
+    {
+        self.sparse_len <= cells
+            && self.pending_len <= waiting_cells
+            && self.pending_len <= MAX_PENDING
+            && self.sparse_bytes <= 2147483647
+            && self.waiting_fits()
+    }
+
+    // Whether the values are valid, those kept in order, and their bytes counted.
+    #[tactic(auto, unfolding(crate::specs::Accumulator::lists_fit))]
+    fn lists_fit(self, kept: &[u32], waiting: &[u32]) -> bool
+        requires { Pair self.precision self.sparse_precision }
+        ensures { result ≡ lists_fit self kept.now waiting.now }
+    {
+        let enc = self.encoding();
+        enc.all_valid(waiting)
+            && checking::is_ascending(kept)
+            && enc.all_valid_ascending(kept)
+            && merging::written_len(kept) <= self.sparse_bytes
+    }
+
+    // Whether a list roll-up fits. Of the memory only the two lists count.
+    #[tactic(auto, using(crate::proofs::FitLaws::counts_of))]
+    fn sparse_fits(self, sparse: &[u32], pending: &[u32]) -> bool
+        ensures { result ≡ sparse_fits self (mem [] sparse.now pending.now) }
+    {
+        ranges_fit(self.precision, self.sparse_precision)
+            && self.counts_fit(sparse.len(), pending.len())
+            && self.lists_fit(&sparse[..self.sparse_len], &pending[..self.pending_len])
+    }
+
+    // Whether a dense roll-up fits. Of the memory only the registers count.
+    fn dense_fits(self, registers: &[u8]) -> bool
+        ensures { result ≡ dense_fits self (mem registers.now [] []) }
+    {
+        header::check_normal_precision(self.precision)
+            && self.sparse_precision != 0
+            && self.no_lists()
+            && registers_fit(self.precision, registers)
+    }
+
+    // Of the memory what it reads, and not the whole `Memory`: `write` is lent two of the slices as `&`, as C lends them const.
+    #[tactic(auto, unfolding(crate::specs::Accumulator::fits))]
+    pub fn fits(self, registers: &[u8], sparse: &[u32], pending: &[u32]) -> bool
+        ensures { result ≡ headFits self (mem registers.now sparse.now pending.now) }
+    {
+        match self.form {
+            Form::Unstarted => self.no_lists(),
+            Form::Sparse => self.sparse_fits(sparse, pending),
+            Form::Dense => self.dense_fits(registers),
+        }
+    }
+    // The same of a whole `Memory`.
+    pub fn fits_in(self, memory: &Memory) -> bool
+        ensures { result ≡ headFits self (mem_of memory.now) }
+    {
+        self.fits(memory.registers, memory.sparse, memory.pending)
     }
 }

@@ -1,15 +1,14 @@
 // Header rules. Ported from `allowed_types`, `check_normal_precision`, `check_sparse_precision`, `validate_structure` and `validate_header` in
-// src/hll.rs of zetasketch-rs at commit 9abe68bf87 (Apache-2.0, see NOTICE). Changed: document 01's numbers, in its order, in the place of
-// `Result` and strings; the mask is asked for by itself; a signed precision is the unsigned number of the same bits, so that a negative one is
-// too large.
-ghost use Rattle.std.specs.Prelude.{◌≡◌, ℕ, ◌≤◌, not, List};
-ghost use Rattle.wire.specs.State.{state_of};
+// src/hll.rs of zetasketch-rs at commit 9abe68bf87 (Apache-2.0, see NOTICE). Changed: document 01's order and numbers (`Refusal`) in the place of strings; the mask is
+// asked for by itself; a signed precision is the unsigned number of the same bits, so that a negative one is too large.
+ghost use Rattle.std.specs.Prelude.{◌≡◌, ◌≤◌, not};
+ghost use Rattle.rollup.specs.Refusals.{answer_of};
 ghost use Rattle.rollup.specs.Accumulator.{normal_range, sparse_range};
-ghost use Rattle.rollup.specs.Header.{data_of, list_of, is_empty, is_value_type, mask_of, kind_answer, list_has_precision, data_has_length, needs_pair, structure_answer, registers_in_range, header_answer};
+ghost use Rattle.rollup.specs.Header.{viewed, data_of, list_of, is_empty, is_value_type, mask_of, kind_answer, list_has_precision, data_has_length, needs_pair, structure_answer, registers_in_range, header_answer};
 
+use crate::refusal::Refusal;
 use lists::{registers, values};
-use wire::state;
-use wire::state::Fields;
+use wire::view::StateView;
 
 pub(crate) const HYPERLOGLOG_PLUS_UNIQUE: u32 = 112;
 
@@ -35,13 +34,13 @@ const TYPE_ALL: u8 = 15;
 fn is_value_type(value_type: u32) -> bool
     ensures { result ≡ is_value_type value_type }
 {
-    match value_type {
-        VALUE_TYPE_UNKNOWN => true,
-        VALUE_TYPE_UINT32 => true,
-        VALUE_TYPE_UINT64 => true,
-        VALUE_TYPE_BYTES_OR_UTF8_STRING => true,
-        _ => false,
-    }
+    matches!(
+        value_type,
+        VALUE_TYPE_UNKNOWN
+            | VALUE_TYPE_UINT32
+            | VALUE_TYPE_UINT64
+            | VALUE_TYPE_BYTES_OR_UTF8_STRING
+    )
 }
 
 // The type mask of a value type that is known.
@@ -56,147 +55,112 @@ pub fn allowed_types(value_type: u32) -> u8
     }
 }
 
-// 4 to 24.
 pub(crate) fn check_normal_precision(p: u32) -> bool
     ensures { result ≡ normal_range p }
 {
-    if p < 4 {
-        return false;
-    }
-    p <= 24
+    (4..=24).contains(&p)
 }
 
-// p to 25.
 pub(crate) fn check_sparse_precision(p: u32, s: u32) -> bool
     ensures { result ≡ sparse_range p s }
 {
-    if s < p {
-        return false;
-    }
-    s <= 25
+    (p..=25).contains(&s)
 }
 
-// Whether field 5 has bytes. `bytes` are those that `f` was read from.
-pub fn has_data(bytes: &[u8], f: Fields) -> bool
-    ensures { result ≡ not (is_empty (data_of (state_of bytes.now f))) }
+// Whether field 5 has bytes.
+pub fn has_data(view: StateView) -> bool
+    ensures { result ≡ not (is_empty (data_of (viewed view.entry))) }
 {
-    let d = state::data(bytes, f);
-    d.len() != 0
+    view.data().len() != 0
 }
 
 // Whether field 6 has bytes.
-pub fn has_sparse_data(bytes: &[u8], f: Fields) -> bool
-    ensures { result ≡ not (is_empty (list_of (state_of bytes.now f))) }
+pub fn has_sparse_data(view: StateView) -> bool
+    ensures { result ≡ not (is_empty (list_of (viewed view.entry))) }
 {
-    let d = state::sparse_data(bytes, f);
-    d.len() != 0
+    view.sparse_data().len() != 0
 }
 
 // 7 to 9.
-fn validate_kind(f: Fields) -> u8
-    ensures { (s : List ℕ) → result ≡ kind_answer (state_of s f) }
+#[tactic(auto, unfolding(crate::specs::Header::kind_answer))]
+fn validate_kind(view: StateView) -> Result<(), Refusal>
+    ensures { answer_of result ≡ kind_answer (viewed view.entry) }
 {
-    if f.aggregator_type != HYPERLOGLOG_PLUS_UNIQUE {
-        return 7;
+    if view.fields.aggregator_type != HYPERLOGLOG_PLUS_UNIQUE {
+        return Err(Refusal::WrongType);
     }
-    if f.encoding_version != ENCODING_VERSION {
-        return 8;
+    if view.fields.encoding_version != ENCODING_VERSION {
+        return Err(Refusal::WrongVersion);
     }
-    if !is_value_type(f.value_type) {
-        return 9;
+    if !is_value_type(view.fields.value_type) {
+        return Err(Refusal::UnknownValueType);
     }
-    0
+    Ok(())
 }
 
 // 10: a list has an s.
-fn list_has_precision(bytes: &[u8], f: Fields) -> bool
-    ensures { result ≡ list_has_precision (state_of bytes.now f) }
+fn list_has_precision(view: StateView) -> bool
+    ensures { result ≡ list_has_precision (viewed view.entry) }
 {
-    if !has_sparse_data(bytes, f) {
-        return true;
-    }
-    let h = f.hll;
-    h.sparse_precision != 0
+    !has_sparse_data(view) || view.fields.hll.sparse_precision != 0
 }
 
 // 12: data of 2^p bytes, if any.
-fn data_has_length(bytes: &[u8], f: Fields) -> bool
-    requires { f.hll.precision ≤ 24 }
-    ensures { result ≡ data_has_length (state_of bytes.now f) }
+fn data_has_length(view: StateView) -> bool
+    requires { view.fields.hll.precision ≤ 24 }
+    ensures { result ≡ data_has_length (viewed view.entry) }
 {
-    let h = f.hll;
-    let d = state::data(bytes, f);
-    let n = d.len();
-    if n == 0 {
-        return true;
-    }
-    n == 1 << h.precision
+    let n = view.data().len();
+    n == 0 || n == 1 << view.fields.hll.precision
 }
 
 // Whether 13 is asked.
-fn needs_pair(bytes: &[u8], f: Fields) -> bool
-    ensures { result ≡ needs_pair (state_of bytes.now f) }
+fn needs_pair(view: StateView) -> bool
+    ensures { result ≡ needs_pair (viewed view.entry) }
 {
-    if has_sparse_data(bytes, f) {
-        return true;
-    }
-    if has_data(bytes, f) {
-        return false;
-    }
-    let h = f.hll;
-    h.sparse_precision != 0
+    has_sparse_data(view) || !has_data(view) && view.fields.hll.sparse_precision != 0
 }
 
 // 7 to 13: all but a look at the registers.
-pub fn validate_structure(bytes: &[u8], f: Fields) -> u8
-    ensures { result ≡ structure_answer (state_of bytes.now f) }
+#[tactic(auto, using(crate::proofs::RefusalLaws::number_some), unfolding(crate::specs::Header::structure_answer))]
+pub fn validate_structure(view: StateView) -> Result<(), Refusal>
+    ensures { answer_of result ≡ structure_answer (viewed view.entry) }
 {
-    let h = f.hll;
-    let kind = validate_kind(f);
-    if kind != 0 {
-        return kind;
+    validate_kind(view)?;
+    if !list_has_precision(view) {
+        return Err(Refusal::NoSparsePrecision);
     }
-    if !list_has_precision(bytes, f) {
-        return 10;
+    let p = view.fields.hll.precision;
+    if !check_normal_precision(p) {
+        return Err(Refusal::BadPrecision);
     }
-    if !check_normal_precision(h.precision) {
-        return 11;
+    if !data_has_length(view) {
+        return Err(Refusal::BadDataLength);
     }
-    if !data_has_length(bytes, f) {
-        return 12;
+    if needs_pair(view) && !check_sparse_precision(p, view.fields.hll.sparse_precision) {
+        return Err(Refusal::BadSparsePrecision);
     }
-    if !needs_pair(bytes, f) {
-        return 0;
-    }
-    if !check_sparse_precision(h.precision, h.sparse_precision) {
-        return 13;
-    }
-    0
+    Ok(())
 }
 
 // 14: no register above the largest rank.
-fn registers_in_range(bytes: &[u8], f: Fields) -> bool
-    requires { structure_answer (state_of bytes.now f) ≡ 0 }
-    ensures { result ≡ registers_in_range (state_of bytes.now f) }
+fn registers_in_range(view: StateView) -> bool
+    requires { structure_answer (viewed view) ≡ 0 }
+    ensures { result ≡ registers_in_range (viewed view.entry) }
 {
-    let h = f.hll;
-    let d = state::data(bytes, f);
-    if d.len() == 0 {
-        return true;
-    }
-    registers::largest_register(d, h.precision) <= values::largest_rank(h.precision)
+    let d = view.data();
+    let p = view.fields.hll.precision;
+    d.len() == 0 || registers::largest_register(d, p) <= values::largest_rank(p)
 }
 
-// 7 to 14: document 01's number of the first whose answer is no, or 0.
-pub fn validate_header(bytes: &[u8], f: Fields) -> u8
-    ensures { result ≡ header_answer (state_of bytes.now f) }
+// 7 to 14.
+#[tactic(auto, using(crate::proofs::RefusalLaws::number_some), unfolding(crate::specs::Header::header_answer))]
+pub fn validate_header(view: StateView) -> Result<(), Refusal>
+    ensures { answer_of result ≡ header_answer (viewed view.entry) }
 {
-    let n = validate_structure(bytes, f);
-    if n != 0 {
-        return n;
+    validate_structure(view)?;
+    if !registers_in_range(view) {
+        return Err(Refusal::BadRegister);
     }
-    if !registers_in_range(bytes, f) {
-        return 14;
-    }
-    0
+    Ok(())
 }

@@ -21,12 +21,15 @@ pub struct Incoming {
     pub most: usize,
 }
 
-// A head with the masks' common bits and the sum of the value counts, which wraps: whatever comes after the first changes these two.
-pub(crate) fn counted(a: Accumulator, x: Incoming) -> Accumulator
-    ensures { result ≡ counted a x }
-{
-    let mut r = a;
-    r.allowed = a.allowed & x.mask;
-    r.num_values = std::num::wrapping_add_u64(a.num_values, x.num_values);
-    r
+impl Accumulator {
+    // The head with the masks' common bits and the sum of the value counts, which wraps: whatever comes after the first changes these two.
+    pub(crate) fn counted(self, x: Incoming) -> Accumulator
+        ensures { result ≡ counted self x }
+    {
+        Accumulator {
+            allowed: self.allowed & x.mask,
+            num_values: self.num_values.wrapping_add(x.num_values),
+            ..self
+        }
+    }
 }

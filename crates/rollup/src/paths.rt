@@ -7,14 +7,10 @@ ghost use Rattle.rollup.specs.Stages.{WaitPre, InsertsPre, PathPre};
 use crate::accumulator::{Accumulator, Form};
 use crate::fitting;
 use crate::incoming::Incoming;
-use lists::inserting;
-use lists::values::Sparse;
 
 // The paths of values at a list roll-up.
-#[derive(Clone, Copy)]
+#[derive(Clone, Copy, Debug, PartialEq, Eq)]
 pub enum Path {
-    // There are no values, or the roll-up has no list.
-    None,
     Waits,
     // They are sorted with those that wait, and all are merged.
     Sorts,
@@ -22,64 +18,53 @@ pub enum Path {
     Merges,
 }
 
-// Whether k values wait.
-fn waits(a: Accumulator, x: Incoming, k: usize) -> bool
-    requires { WaitPre a x k }
-    ensures { result ≡ waits a x k }
-{
-    let bytes = fitting::waiting_bound(a) + x.growth;
-    if fitting::size_limit(a.precision) <= bytes {
-        return false;
+impl Accumulator {
+    // Whether k values wait.
+    fn waits(self, x: Incoming, k: usize) -> bool
+        requires { WaitPre self x k }
+        ensures { result ≡ waits self x k }
+    {
+        self.waiting_bound() + x.growth < fitting::size_limit(self.precision)
+            && self.pending_len + k <= x.most
     }
-    a.pending_len + k <= x.most
-}
 
-// Whether k values are inserted, where none wait. `distinct` says that the list is known to be one that a merge can leave; else it is walked.
-fn inserts(a: Accumulator, kept: &[u32], k: usize, distinct: bool) -> bool
-    requires { InsertsPre a kept.now distinct }
-    ensures { result ≡ inserts a kept.now k }
-{
-    if 16 < k {
-        return false;
+    // Whether k values are inserted, where none wait. `distinct` says that the list is known to be one that a merge can leave; else it is walked.
+    fn inserts(self, kept: &[u32], k: usize, distinct: bool) -> bool
+        requires { InsertsPre self kept.now distinct }
+        ensures { result ≡ inserts self kept.now k }
+    {
+        k <= 16
+            && 16 * k <= self.sparse_len
+            && (distinct || self.encoding().has_distinct_slots(kept))
     }
-    if a.sparse_len < 16 * k {
-        return false;
-    }
-    if distinct {
-        return true;
-    }
-    inserting::has_distinct_slots(Sparse::new(a.precision, a.sparse_precision), kept)
-}
 
-// The path of k values at a list roll-up.
-fn list_path(a: Accumulator, x: Incoming, kept: &[u32], k: usize, distinct: bool) -> Path
-    requires { WaitPre a x k × InsertsPre a kept.now distinct }
-    ensures { result ≡ list_path a kept.now x k }
-{
-    if k == 0 {
-        return Path::None;
+    // The path of k values at a list roll-up; without values there is none.
+    fn list_path(self, x: Incoming, kept: &[u32], k: usize, distinct: bool) -> Option<Path>
+        requires { WaitPre self x k × InsertsPre self kept.now distinct }
+        ensures { result ≡ list_path self kept.now x k }
+    {
+        if k == 0 {
+            None
+        } else if self.waits(x, k) {
+            Some(Path::Waits)
+        } else if self.pending_len != 0 {
+            Some(Path::Sorts)
+        } else if self.inserts(kept, k, distinct) {
+            Some(Path::Inserts)
+        } else {
+            Some(Path::Merges)
+        }
     }
-    if waits(a, x, k) {
-        return Path::Waits;
-    }
-    if a.pending_len != 0 {
-        return Path::Sorts;
-    }
-    if inserts(a, kept, k, distinct) {
-        return Path::Inserts;
-    }
-    Path::Merges
-}
 
-// The path of k values at any roll-up.
-pub fn path_of(a: Accumulator, x: Incoming, kept: &[u32], k: usize, distinct: bool) -> Path
-    requires { PathPre a x kept.now k distinct }
-    ensures { result ≡ path_of a.form a kept.now x k }
-{
-    let form = a.form;
-    match form {
-        Form::Unstarted => Path::None,
-        Form::Sparse => list_path(a, x, kept, k, distinct),
-        Form::Dense => Path::None,
+    // The path of k values at any roll-up: one without a list has none.
+    pub fn path_of(self, x: Incoming, kept: &[u32], k: usize, distinct: bool) -> Option<Path>
+        requires { PathPre self x kept.now k distinct }
+        ensures { result ≡ path_of self.form self kept.now x k }
+    {
+        if self.form == Form::Sparse {
+            self.list_path(x, kept, k, distinct)
+        } else {
+            None
+        }
     }
 }

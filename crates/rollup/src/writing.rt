@@ -8,77 +8,171 @@ ghost use Rattle.wire.specs.Encoding.{encode_step};
 ghost use Rattle.lists.specs.Registers.{registers_of};
 ghost use Rattle.rollup.specs.declared.accumulator.Form.TheVariants.{Sparse as ListForm};
 ghost use Rattle.rollup.specs.Accumulator.{mem, fits as headFits};
+ghost use Rattle.rollup.specs.Refusals.{answer_of, length_of};
 ghost use Rattle.rollup.specs.Writing.{state_with, WritePost};
 ghost use Rattle.rollup.specs.WritingPaths.{Writes, written_fields, list_outcome, ValuesPre, FlushPre, FlushPost};
 
 use crate::accumulator::{Accumulator, Form};
 use crate::fitting;
 use crate::header::{ENCODING_VERSION, HYPERLOGLOG_PLUS_UNIQUE};
+use crate::refusal::Refusal;
 use lists::merging::Merged;
 use lists::registers::register_bytes;
 use lists::values::Sparse;
-use lists::{indices, merging, sorting};
-use wire::encoding;
-use wire::encoding::Encoded;
-use wire::state::{Fields, HllFields, Part};
+use lists::{merging, sorting};
+use wire::fields::Part;
+use wire::state::{Fields, HllFields};
+use wire::view::StateView;
 
-// The answer's number, 0 for written, and how many bytes were written.
-#[derive(Clone, Copy)]
-pub struct Written {
-    pub answer: u8,
-    pub len: usize,
-}
-
-// The fields of a state of the head's numbers, with registers or with a list.
-fn view(a: Accumulator, size: u32, dense: bool, data_len: usize, sparse_len: usize) -> Fields
-    ensures { result ≡ written_fields a size dense data_len sparse_len }
-{
-    let data = Part {
-        start: 0,
-        len: data_len,
-    };
-    let sparse_data = Part {
-        start: 0,
-        len: sparse_len,
-    };
-    let hll = HllFields {
-        sparse_size: size,
-        precision: a.precision,
-        sparse_precision: a.sparse_precision,
-        data_present: dense,
-        sparse_data_present: !dense,
-        data,
-        sparse_data,
-    };
-    Fields {
-        aggregator_type: HYPERLOGLOG_PLUS_UNIQUE,
-        num_values: a.num_values,
-        encoding_version: ENCODING_VERSION,
-        value_type: a.value_type,
-        hll,
+impl Accumulator {
+    // A state of the head's numbers, with registers or with a list. Its registers are the first of `bytes`; of a list only how many bytes it has counts here.
+    fn view<'a>(
+        self,
+        bytes: &'a [u8],
+        size: u32,
+        dense: bool,
+        data_len: usize,
+        sparse_len: usize,
+    ) -> StateView<'a>
+        ensures fields { result.fields ≡ written_fields self size dense data_len sparse_len }
+        ensures same { result.bytes ≡ bytes.entry }
+    {
+        let data = Part {
+            start: 0,
+            len: data_len,
+        };
+        let sparse_data = Part {
+            start: 0,
+            len: sparse_len,
+        };
+        let hll = HllFields {
+            sparse_size: size,
+            precision: self.precision,
+            sparse_precision: self.sparse_precision,
+            data_present: dense,
+            sparse_data_present: !dense,
+            data,
+            sparse_data,
+        };
+        let fields = Fields {
+            aggregator_type: HYPERLOGLOG_PLUS_UNIQUE,
+            num_values: self.num_values,
+            encoding_version: ENCODING_VERSION,
+            value_type: self.value_type,
+            hll,
+        };
+        StateView { bytes, fields }
     }
-}
 
-// ---- a list roll-up
+    // ---- a list roll-up
 
-// 22 and 23, and then the head and the list. The list's bytes are made in the output, past the head, whose length is asked for first.
-fn write_values(a: Accumulator, size: u32, list: &[u32], bytes: usize, out: &mut [u8]) -> Written
-    requires { ValuesPre a list.now bytes }
-    ensures { Writes (list_outcome a size list.now (length out.old)) out.old result out.new }
-{
-    if fitting::size_limit(a.precision) <= bytes {
-        return Written { answer: 22, len: 0 };
+    // 22 and 23, and then the head and the list. The list's bytes are made in the output, past the head, whose length is asked for first.
+    fn write_values(
+        self,
+        size: u32,
+        list: &[u32],
+        bytes: usize,
+        out: &mut [u8],
+    ) -> Result<usize, Refusal>
+        requires { ValuesPre self list.now bytes }
+        ensures { Writes (list_outcome self size list.now (length out.old)) out.old (answer_of result) (length_of result) out.new }
+    {
+        if fitting::size_limit(self.precision) <= bytes {
+            return Err(Refusal::ListTooLong);
+        }
+        let view = self.view(b"", size, false, 0, bytes);
+        let total = view.head_len() + bytes;
+        if out.len() < total {
+            return Err(Refusal::OutputTooShort);
+        }
+        let at = view.encode_head(out);
+        merging::encode_sparse(list, &mut out[at..]);
+        Ok(total)
     }
-    let f = view(a, size, false, 0, bytes);
-    let total = encoding::head_len(b"", f) + bytes;
-    if out.len() < total {
-        return Written { answer: 23, len: 0 };
+
+    // 17, and then the list: what is kept as it is where nothing waits, else all values as one list. Of the memory only the two lists count.
+    fn write_list(
+        self,
+        sparse: &[u32],
+        pending: &mut [u32],
+        scratch: &mut [u32],
+        out: &mut [u8],
+    ) -> Result<usize, Refusal>
+        requires { (self.form ≡ ListForm) × (headFits self (mem [] sparse.now pending.old) ≡ true) }
+        ensures { (registers : List ℕ) → WritePost self (mem registers sparse.now pending.old) (length scratch.old) out.old (answer_of result) (length_of result) (mem registers sparse.now pending.new) out.new }
+    {
+        if scratch.len() < self.sparse_len + self.pending_len {
+            return Err(Refusal::NoRoom);
+        }
+        let kept = &sparse[..self.sparse_len];
+        if self.pending_len == 0 {
+            return self.write_values(self.sparse_size, kept, merging::written_len(kept), out);
+        }
+        let enc = self.encoding();
+        let u = flush_pending(enc, kept, pending, self.pending_len, scratch);
+        let list = &scratch[..u.len];
+        self.write_values(
+            enc.distinct_indices(list) as u32,
+            list,
+            u.bytes,
+            out,
+        )
     }
-    let at = encoding::encode_head(b"", f, out);
-    merging::encode_sparse(list, &mut out[at..]);
-    Written {
-        answer: 0,
-        len: total,
+
+    // ---- a dense roll-up
+
+    // 23, and then the state with the registers as its data.
+    fn write_dense(self, registers: &[u8], out: &mut [u8]) -> Result<usize, Refusal>
+        requires { self.precision ≤ 24 }
+        ensures { Writes (encode_step (state_with self self.sparse_size (some (registers_of self.precision registers.now)) none) (length out.old)) out.old (answer_of result) (length_of result) out.new }
+    {
+        let view = self.view(
+            registers,
+            self.sparse_size,
+            true,
+            register_bytes(self.precision),
+            0,
+        );
+        Ok(view.encode(out)?)
+    }
+
+    // ---- all of it. What is only read is lent as `&`, as C lends it const, and not as a whole `Memory`, which would ask more of callers.
+
+    // 21, 17, 22 and 23, of a head that fits, and then the state. The answer is how many bytes were written.
+    pub fn write_fitting(
+        self,
+        registers: &[u8],
+        sparse: &[u32],
+        pending: &mut [u32],
+        scratch: &mut [u32],
+        out: &mut [u8],
+    ) -> Result<usize, Refusal>
+        requires { headFits self (mem registers.now sparse.now pending.old) ≡ true }
+        ensures { WritePost self (mem registers.now sparse.now pending.old) (length scratch.old) out.old (answer_of result) (length_of result) (mem registers.now sparse.now pending.new) out.new }
+    {
+        match self.form {
+            Form::Unstarted => Err(Refusal::NotStarted),
+            Form::Sparse => self.write_list(sparse, pending, scratch, out),
+            Form::Dense => self.write_dense(registers, out),
+        }
+    }
+
+    // Writes a roll-up as a state: document 01's questions in their order, and then the bytes, at the start of `out`. The values that wait are put in
+    // order; the roll-up is otherwise as it was.
+    pub fn write(
+        self,
+        registers: &[u8],
+        sparse: &[u32],
+        pending: &mut [u32],
+        scratch: &mut [u32],
+        out: &mut [u8],
+    ) -> Result<usize, Refusal>
+        ensures { WritePost self (mem registers.now sparse.now pending.old) (length scratch.old) out.old (answer_of result) (length_of result) (mem registers.now sparse.now pending.new) out.new }
+    {
+        if !self.fits(registers, sparse, &pending[..]) {
+            return Err(Refusal::Misfit);
+        }
+        self.write_fitting(registers, sparse, pending, scratch, out)
     }
 }
 
@@ -94,90 +188,5 @@ fn flush_pending(
     ensures { FlushPost enc.normal_precision enc.sparse_precision kept.now pending.old w result pending.new scratch.new }
 {
     sorting::sort_runs(&mut pending[..w], scratch);
-    merging::merge_dedupe_into(enc, kept, &pending[..w], scratch)
-}
-
-// 17, and then the list: what is kept as it is where nothing waits, else all values as one list. Of the memory only the two lists count.
-fn write_list(
-    a: Accumulator,
-    sparse: &[u32],
-    pending: &mut [u32],
-    scratch: &mut [u32],
-    out: &mut [u8],
-) -> Written
-    requires { (a.form ≡ ListForm) × (headFits a (mem [] sparse.now pending.old) ≡ true) }
-    ensures { (registers : List ℕ) → WritePost a (mem registers sparse.now pending.old) (length scratch.old) out.old result (mem registers sparse.now pending.new) out.new }
-{
-    if scratch.len() < a.sparse_len + a.pending_len {
-        return Written { answer: 17, len: 0 };
-    }
-    let kept = &sparse[..a.sparse_len];
-    if a.pending_len == 0 {
-        return write_values(a, a.sparse_size, kept, merging::written_len(kept), out);
-    }
-    let enc = Sparse::new(a.precision, a.sparse_precision);
-    let u = flush_pending(enc, kept, pending, a.pending_len, scratch);
-    let list = &scratch[..u.len];
-    write_values(
-        a,
-        indices::distinct_indices(enc, list) as u32,
-        list,
-        u.bytes,
-        out,
-    )
-}
-
-// ---- a dense roll-up
-
-// 23, and then the state with the registers as its data.
-fn write_dense(a: Accumulator, registers: &[u8], out: &mut [u8]) -> Written
-    requires { a.precision ≤ 24 }
-    ensures { Writes (encode_step (state_with a a.sparse_size (some (registers_of a.precision registers.now)) none) (length out.old)) out.old result out.new }
-{
-    let f = view(a, a.sparse_size, true, register_bytes(a.precision), 0);
-    let r = encoding::encode(registers, f, out);
-    let Encoded::Written(n) = r else {
-        return Written { answer: 23, len: 0 };
-    };
-    Written { answer: 0, len: n }
-}
-
-// ---- all of it
-
-// 21, 17, 22 and 23, of a head that fits, and then the state.
-pub fn write_fitting(
-    a: Accumulator,
-    registers: &[u8],
-    sparse: &[u32],
-    pending: &mut [u32],
-    scratch: &mut [u32],
-    out: &mut [u8],
-) -> Written
-    requires { headFits a (mem registers.now sparse.now pending.old) ≡ true }
-    ensures { WritePost a (mem registers.now sparse.now pending.old) (length scratch.old) out.old result (mem registers.now sparse.now pending.new) out.new }
-{
-    let form = a.form;
-    match form {
-        Form::Unstarted => Written { answer: 21, len: 0 },
-        Form::Sparse => write_list(a, sparse, pending, scratch, out),
-        Form::Dense => write_dense(a, registers, out),
-    }
-}
-
-// Writes a roll-up as a state: document 01's questions in their order, and then the bytes, at the start of `out`. The values that wait are put in
-// order; the roll-up is otherwise as it was.
-pub fn write(
-    a: Accumulator,
-    registers: &[u8],
-    sparse: &[u32],
-    pending: &mut [u32],
-    scratch: &mut [u32],
-    out: &mut [u8],
-) -> Written
-    ensures { WritePost a (mem registers.now sparse.now pending.old) (length scratch.old) out.old result (mem registers.now sparse.now pending.new) out.new }
-{
-    if !fitting::fits(a, registers, sparse, &pending[..]) {
-        return Written { answer: 1, len: 0 };
-    }
-    write_fitting(a, registers, sparse, pending, scratch, out)
+    enc.merge_dedupe_into(kept, &pending[..w], scratch)
 }

@@ -9,12 +9,14 @@ use native.Mathlib.Numerals.{add-one}
 use native.Mathlib.Omega.{arith}
 use lib.Dec.{eqb}
 use lib.ListN.{length, take, drop, get_or, set, length-append, length-set, length-take, length-drop, drop_of_length-le}
-use lib.Seq.{sets, length-sets, sets-eq, drop-cons}
+use lib.Seq.{sets, length-sets, sets-eq, drop-drop}
+use borrow.Rule.Slice.PartMut.{put_mid}
 use borrow.Author.Tests.{lt-ltb, le-ltb, le-leb, lt-leb, eq-eqb, ne_eqb, not-true, not-false}
-use Rattle.wire.specs.declared.state.Part.{Part}
+use Rattle.wire.specs.declared.fields.Part.{Part}
 use Rattle.wire.specs.declared.state.HllFields.{HllFields}
 use Rattle.wire.specs.declared.state.Fields.{Fields}
-use Rattle.wire.specs.declared.encoding.Encoded.TheVariants.{Written, Short}
+use Rattle.std.specs.Prelude.{Ok, Err}
+use Rattle.wire.specs.declared.encoding.EncodeError.TheVariants.{OutputTooShort}
 use Rattle.wire.specs.Varints.{varint_bytes, PutPost}
 use Rattle.wire.specs.Fields.{tag, VARINT, LEN}
 use Rattle.wire.specs.State.{HllState, State, when_present, bytes_or_none, part_of, hll_of, state_of}
@@ -91,33 +93,17 @@ same_room out at x y e h = subst (λ (l : List ℕ). at + length l ≤ length ou
 pub front_room : (out x : List ℕ) → length x ≤ length out → 0 + length x ≤ length out
 front_room out x h = omega arith
 
--- Where the copying of d is: i of its bytes were put.
-pub record Copied (out : List ℕ) (at : ℕ) (d : List ℕ) (i : ℕ) (now : List ℕ) : Type 0 where
-  pub few : i ≤ length d
-  pub whole : sets out at d ≡ sets now (at + i) (drop i d)
-  pub same : length now ≡ length out
-
-pub copied_none : (out : List ℕ) (at : ℕ) (d : List ℕ) → Copied out at d 0 out
-copied_none out at d = record { few = omega arith; whole = ap (λ (k : ℕ). sets out k d) (sym (add-zero at)); same = refl }
-
-pub copied_more : (out : List ℕ) (at : ℕ) (d : List ℕ) (i : ℕ) (now : List ℕ) → i < length d → Copied out at d i now
-    → Copied out at d (i + 1) (set now (at + i) (get_or d i 0))
-copied_more out at d i now h r =
+-- The bytes d in the place of as many.
+pub put_part : (out d : List ℕ) (at : ℕ) {y : List ℕ} → at + length d ≤ length out → y ≡ d
+    → PutPost out at d (at + length d) (put_mid at (at + length d - at) out y)
+put_part out d at h e =
     record {
-      few = omega arith;
-      whole =
-          r.whole
-          ∙ ap (sets now (at + i)) (drop-cons d i 0 h)
-          ∙ ap₂ (λ (k : ℕ) (j : ℕ). sets (set now (at + i) (get_or d i 0)) k (drop j d)) (let k : suc (at + i) ≡ at + (i + 1) = omega arith in k)
-          (sym (add-one i));
-      same = length-set now (at + i) (get_or d i 0) ∙ r.same;
-    }
-
-pub copied_all : (out : List ℕ) (at : ℕ) (d : List ℕ) (i : ℕ) (now : List ℕ) → length d ≤ i → Copied out at d i now → PutPost out at d (at + i) now
-copied_all out at d i now h r =
-    record {
-      next = omega (arith, r.few);
-      output = sym (r.whole ∙ ap (sets now (at + i)) (drop_of_length-le d h));
+      next = refl;
+      output =
+          ap₂ (λ (ys : List ℕ) (k : ℕ). take at out ++ (ys ++ drop k (drop at out))) e (let n : at + length d - at ≡ length d = omega arith in n)
+          ∙ ap (λ (r : List ℕ). take at out ++ (d ++ r)) (drop-drop (length d) at out)
+          ∙ sym (append_assoc (take at out) d (drop (at + length d) out))
+          ∙ sym (sets-eq d out at h);
     }
 
 -- ---- what the parts are made of
@@ -128,13 +114,14 @@ signed_small v h = rw (lt-ltb _ _ h)
 pub signed_large : (v : ℕ) → 2 ^ 31 ≤ v → v + 18446744069414584320 ≡ sign_extended v
 signed_large v h = rw (le-ltb _ _ h)
 
-pub number_is : (field v : ℕ) → Two (number_field field v) (varint_bytes 10 (tag field VARINT)) (varint_bytes 10 v)
+-- The code's field number, f, is the one that is meant.
+pub number_is : {f field : ℕ} → f ≡ field → (v : ℕ) → Two (number_field field v) (varint_bytes 10 (tag f VARINT)) (varint_bytes 10 v)
 unfolding number_field
-number_is field v = record { is = refl }
+number_is e v = record { is = ap (λ (x : ℕ). varint_bytes 10 (tag x VARINT) ++ varint_bytes 10 v) (sym e) }
 
-pub prefix_is : (field n : ℕ) → Two (length_prefix field n) (varint_bytes 10 (tag field LEN)) (varint_bytes 10 n)
+pub prefix_is : {f field : ℕ} → f ≡ field → (n : ℕ) → Two (length_prefix field n) (varint_bytes 10 (tag f LEN)) (varint_bytes 10 n)
 unfolding length_prefix
-prefix_is field n = record { is = refl }
+prefix_is e n = record { is = ap (λ (x : ℕ). varint_bytes 10 (tag x LEN) ++ varint_bytes 10 n) (sym e) }
 
 module _ (omitted field v : ℕ) where
   pub int32_none : v ≡ omitted → int32_unless omitted field v ≡ []
@@ -195,10 +182,10 @@ varints_le : {bytes : List ℕ} (t v : ℕ) → Two bytes (varint_bytes 10 t) (v
 varints_le t v two = omega (arith, two_length two, len_le 10 t, len_le 10 v)
 
 pub number_le : (field v : ℕ) → length (number_field field v) ≤ 20
-number_le field v = varints_le (tag field VARINT) v (number_is field v)
+number_le field v = varints_le (tag field VARINT) v (number_is refl v)
 
 pub prefix_le : (field n : ℕ) → length (length_prefix field n) ≤ 20
-prefix_le field n = varints_le (tag field LEN) n (prefix_is field n)
+prefix_le field n = varints_le (tag field LEN) n (prefix_is refl n)
 
 pub int32_le : (omitted field v : ℕ) → length (int32_unless omitted field v) ≤ 20
 unfolding int32_unless
@@ -387,7 +374,7 @@ unfolding encode_step
 encode_yes st room h = ap (λ (b : Bool). cond b (record { answer = 0; bytes = encode_of st }) (record { answer = 23; bytes = [] })) (le-leb _ _ h)
 
 module _ (st : State) (out : List ℕ) where
-  pub encode_short : length out < length (encode_of st) → EncodePost st out Short out
+  pub encode_short : length out < length (encode_of st) → EncodePost st out (Err OutputTooShort) out
   encode_short h =
       record {
         answer = ap (λ (o : Output). o.answer) (sym step);
@@ -399,7 +386,7 @@ module _ (st : State) (out : List ℕ) where
       step = encode_no st (length out) h
 
   pub encode_written : (r : ℕ) (after : List ℕ) → length (encode_of st) ≤ length out → PutPost out 0 (encode_of st) r after
-      → EncodePost st out (Written r) after
+      → EncodePost st out (Ok r) after
   encode_written r after h p =
       record {
         answer = ap (λ (o : Output). o.answer) (sym step);

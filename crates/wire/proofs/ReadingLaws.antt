@@ -1,82 +1,97 @@
 -- Laws of reading tags, bytes and skipped fields at a position: from the answer that a call gave to the answer that its caller gives.
 use Prim.Native.Nat.{ℕ, zero, suc, ◌+◌, ◌-◌, ◌/◌, ◌%◌, ◌^◌, ◌<◌, ◌≤◌}
-use mathlib.Core.Path.{◌≡◌, refl, sym, ap, ap₂, ◌∙◌, subst}
+use mathlib.Core.Path.{◌≡◌, refl, sym, ap, ap₂, ◌∙◌}
 use mathlib.Core.List.{List, [], ◌∷◌}
 use mathlib.Core.Bool.{Bool, true, false, cond}
-use mathlib.Core.Logic.{◌⊎◌, inl, inr}
-use native.Mathlib.Nat.{add-sub_cancel_left}
+use native.Mathlib.Nat.{mod-eq_of_lt}
 use native.Mathlib.Omega.{arith}
 use lib.Dec.{leb}
 use lib.ListN.{length, take, drop, drop_of_length-le, length-drop}
 use lib.Seq.{drop-drop}
 use borrow.Author.Tests.{lt-ltb, le-ltb, le-leb, lt-leb, ne_eqb}
-use Rattle.wire.specs.contracts.varint.Varint.{enum as varint-enum}
-use Rattle.wire.specs.contracts.fields.Tag.{enum as tag-enum}
-use Rattle.wire.specs.contracts.fields.Taken.{enum as taken-enum}
-use Rattle.wire.specs.contracts.fields.Skipped.{enum as skipped-enum}
+use Rattle.std.specs.Prelude.{Result, Ok, Err}
+use Rattle.std.specs.Result.{IsErrAnd}
+use Rattle.wire.specs.declared.read_error.ReadError.{ReadError}
+use Rattle.wire.specs.declared.read_error.ReadError.TheVariants.{Truncated, InvalidTag, InvalidWireType}
 use Rattle.wire.specs.declared.varint.Cursor.{Cursor}
-use Rattle.wire.specs.declared.varint.Varint.{Varint}
-use Rattle.wire.specs.declared.varint.Varint.TheVariants.{Value, Cut, Long}
-use Rattle.wire.specs.declared.fields.Tag.{Tag}
-use Rattle.wire.specs.declared.fields.Tag.TheVariants.{Value as TagValue, Refused as TagRefused}
-use Rattle.wire.specs.declared.fields.Taken.{Taken}
-use Rattle.wire.specs.declared.fields.Taken.TheVariants.{Bytes, Refused as TakenRefused}
-use Rattle.wire.specs.declared.fields.Skipped.{Skipped}
-use Rattle.wire.specs.declared.fields.Skipped.TheVariants.{To, Refused as SkipRefused}
-use Rattle.wire.specs.Reading.{Read, got, refused, and_then}
-use Rattle.wire.specs.Varints.{varint64, varint_means, VarintPost, varint_refusal}
-use Rattle.wire.specs.Fields.{is_tag, tag_of, bytes_of, delimited_of, skip_of, field_of, fields_of, message_of, tag_means, taken_means, skipped_means, TakenInside, SkippedInside, TagPost, TakePost, DelimitedPost, SkipPost, past_of, tag_refusal, taken_refusal, skipped_refusal}
-use denote.Enum.Declared as E
+use Rattle.wire.specs.declared.fields.Part.{Part}
+use Rattle.wire.specs.Reading.{Read, got, refused, and_then, read_error_number, ReadPost}
+use Rattle.wire.specs.Varints.{low_bits, varint64, VarintPost, Varint32Post}
+use Rattle.wire.specs.Fields.{is_tag, tag_of, bytes_of, delimited_of, skip_of, field_of, fields_of, message_of, TagPost, TakenPost, TakePost, DelimitedPost, SkipPost}
 
 -- What follows an answer depends on that answer alone.
 pub then_same : {A B : Type 0} {r r' : Read A} (next : A → List ℕ → Read B) → r ≡ r' → and_then r next ≡ and_then r' next
 then_same next e = ap (λ x. and_then x next) e
 
--- ---- a varint that was not read
+-- ---- what a `?` hands on
 
--- The tags of `Varint` other than that of `Value`.
-abbrev pub NoValue : Varint → Type 0
-NoValue r = (E.tag_of (E.declared varint-enum) r ≡ 1) ⊎ (E.tag_of (E.declared varint-enum) r ≡ 2)
+pub same_error : {A : Type 0} {x : Read A} {e y : ReadError} → y ≡ e → refused (read_error_number e) ≡ x → refused (read_error_number y) ≡ x
+same_error h p = ap (λ z. refused (read_error_number z)) h ∙ p
 
-no_value : (s : List ℕ) (r : Varint) → NoValue r → refused (varint_refusal r) ≡ varint_means s r
-no_value s (Value v c) (inl e) = absurd (let z : ⊥ = omega arith in z)
-no_value s (Value v c) (inr e) = absurd (let z : ⊥ = omega arith in z)
-no_value s Cut h = refl
-no_value s Long h = refl
+-- What reading starts with is refused, so nothing follows.
+module _ {A B : Type 0} {says : A → B} {n : ℕ} {s : List ℕ} {at : ℕ} {reading : List ℕ → Read B} {e : ReadError} (p : ReadPost says n s at reading (Err e)) where
+  pub stopped : {D : Type 0} {y : ReadError} (next : B → List ℕ → Read D) → y ≡ e → refused (read_error_number y) ≡ and_then (reading (drop at s)) next
+  stopped next h = ap (λ z. refused (read_error_number z)) h ∙ then_same next p.answer
 
-module _ {s : List ℕ} {at n : ℕ} {r : Varint} (no : NoValue r) (p : VarintPost s at r) (e : n ≡ varint_refusal r) where
-  pub varint_refused : refused n ≡ varint64 (drop at s)
-  varint_refused = ap refused e ∙ no_value s r no ∙ p.answer
+  pub failed : {C D : Type 0} {says' : C → D} {n' : ℕ} (next : B → List ℕ → Read D) (r : Result (C × Cursor) ReadError) → IsErrAnd r (λ y. y ≡ e)
+      → ReadPost says' n' s at (λ l. and_then (reading l) next) r
+  failed next (Ok x) h = absurd h
+  failed next (Err y) h = record { answer = stopped next h; inside = tt }
 
-  pub tag_refused : TagPost s at (TagRefused n)
-  unfolding tag_of
-  tag_refused = record { answer = then_same _ varint_refused; inside = tt }
+-- The low bits of a varint are read where it is.
+low_then : {D : Type 0} (k : ℕ) (r : Read ℕ) (next : ℕ → List ℕ → Read D) → and_then (low_bits k r) next ≡ and_then r (λ v rest. next (v % 2 ^ k) rest)
+low_then k (got v l) next = refl
+low_then k (refused n) next = refl
 
-  pub delimited_refused : DelimitedPost s at (TakenRefused n)
-  unfolding delimited_of
-  delimited_refused = record { answer = then_same _ varint_refused; inside = tt }
+module _ {s : List ℕ} {at v : ℕ} {c : Cursor} (p : VarintPost s at (Ok (v, c))) where
+  pub varint32_read : Varint32Post s at (Ok (v % 2 ^ 32, c))
+  varint32_read = record { answer = ap (low_bits 32) p.answer; inside = p.inside }
 
-  pub skip_varint_refused : SkipPost s 0 at (SkipRefused n)
-  unfolding skip_of
-  skip_varint_refused = record { answer = then_same _ varint_refused; inside = tt }
+  pub varint32_small : v < 2 ^ 32 → Varint32Post s at (Ok (v, c))
+  varint32_small h = record { answer = ap (λ x. got x (drop c.at s)) (sym (mod-eq_of_lt h)) ∙ ap (low_bits 32) p.answer; inside = p.inside }
+
+pub varint32_failed : {s : List ℕ} {at : ℕ} {e : ReadError} → VarintPost s at (Err e) → (r : Result (ℕ × Cursor) ReadError) → IsErrAnd r (λ y. y ≡ e)
+    → Varint32Post s at r
+varint32_failed p (Ok x) h = absurd h
+varint32_failed p (Err y) h = record { answer = same_error h (ap (low_bits 32) p.answer); inside = tt }
+
+-- A number of 32 bits, and what is made of it.
+pub varint32_then : {D : Type 0} {s : List ℕ} {at v : ℕ} {c : Cursor} → Varint32Post s at (Ok (v, c)) → (next : ℕ → List ℕ → Read D)
+    → next v (drop c.at s) ≡ and_then (varint64 (drop at s)) (λ x rest. next (x % 2 ^ 32) rest)
+varint32_then {s = s} {at = at} p next = then_same next p.answer ∙ low_then 32 (varint64 (drop at s)) next
+
+pub varint32_stopped : {s : List ℕ} {at : ℕ} {e : ReadError} → Varint32Post s at (Err e) → VarintPost s at (Err e)
+varint32_stopped {s} {at} p = record { answer = go (varint64 (drop at s)) p.answer; inside = tt }
+  where
+    go : (x : Read ℕ) {n : ℕ} → refused n ≡ low_bits 32 x → refused n ≡ x
+    go (got v l) h = absurd (let z : ◌≡◌ {A = ℕ} 0 1 = cc in let z : ⊥ = omega arith in z)
+    go (refused k) h = h
 
 -- ---- tags
 
 pub is_tag_lem : (t : ℕ) → 8 ≤ t → t < 2 ^ 32 → is_tag t ≡ true
 is_tag_lem t h k = let g : 0 < t / 8 = omega arith in rw (lt-ltb t (2 ^ 32) k, lt-ltb 0 (t / 8) g)
 
-module _ {s : List ℕ} {at v : ℕ} {c : Cursor} (p : VarintPost s at (Value v c)) where
+pub tag_failed : {s : List ℕ} {at : ℕ} {e : ReadError} → VarintPost s at (Err e) → (r : Result (ℕ × Cursor) ReadError) → IsErrAnd r (λ y. y ≡ e)
+    → TagPost s at r
+unfolding tag_of
+tag_failed p r h = failed p _ r h
+
+module _ {s : List ℕ} {at v : ℕ} {c : Cursor} (p : VarintPost s at (Ok (v, c))) where
   tag_is : (b : Bool) → is_tag v ≡ b → cond b (got v (drop c.at s)) (refused 5) ≡ tag_of (drop at s)
   unfolding tag_of
   tag_is b e = ap (λ (t : Bool). cond t (got v (drop c.at s)) (refused 5)) (sym e) ∙ then_same _ p.answer
 
-  pub tag_high : 2 ^ 32 ≤ v → TagPost s at (TagRefused 5)
+  pub tag_high : 2 ^ 32 ≤ v → TagPost s at (Err InvalidTag)
   tag_high h = record { answer = tag_is false (rw (le-ltb v (2 ^ 32) h)); inside = tt }
 
-  pub tag_low : v < 2 ^ 32 → v < 8 → TagPost s at (TagRefused 5)
-  tag_low h l = let g : v / 8 ≤ 0 = omega arith in record { answer = tag_is false (rw (lt-ltb v (2 ^ 32) h, le-ltb 0 (v / 8) g)); inside = tt }
+  pub tag_low : v < 8 → TagPost s at (Err InvalidTag)
+  tag_low l =
+      let g : v / 8 ≤ 0 = omega arith in
+      let h : v < 2 ^ 32 = omega arith in
+      record { answer = tag_is false (rw (lt-ltb v (2 ^ 32) h, le-ltb 0 (v / 8) g)); inside = tt }
 
-  pub tag_good : v < 2 ^ 32 → 8 ≤ v → TagPost s at (TagValue v c)
+  pub tag_good : v < 2 ^ 32 → 8 ≤ v → TagPost s at (Ok (v, c))
   tag_good h l = record { answer = tag_is true (is_tag_lem v l h); inside = p.inside }
 
 -- ---- the bytes of a field
@@ -92,110 +107,75 @@ pub bytes_got : (n : ℕ) (l : List ℕ) → n ≤ length l → bytes_of n l ≡
 bytes_got n l h = bytes_are n l true (le-leb n (length l) h)
 
 module _ {s : List ℕ} {at n : ℕ} (inside : at ≤ length s) where
-  pub take_short : length s - at < n → TakePost s at n (TakenRefused 3)
-  take_short h = record { answer = sym (bytes_cut n (drop at s) (omega (arith, length-drop at s))); inside = tt }
+  pub take_short : length s - at < n → TakePost s at n (Err Truncated)
+  take_short h =
+      record { read = record { answer = sym (bytes_cut n (drop at s) (omega (arith, length-drop at s))); inside = tt }; placed = tt }
 
-  pub take_whole : n ≤ length s - at → TakePost s at n (Bytes at (at + n))
+  pub take_whole : n ≤ length s - at → TakePost s at n (Ok (record { start = at; len = n }, record { at = at + n }))
   take_whole h =
       record {
-        answer =
-            ap₂ (λ (k : ℕ) (l : List ℕ). got (take k (drop at s)) l) (add-sub_cancel_left at n) (sym (drop-drop n at s))
-            ∙ sym (bytes_got n (drop at s) (omega (arith, length-drop at s)));
-        inside = (omega arith, omega arith, omega arith);
+        read =
+            record {
+              answer = ap (λ (l : List ℕ). got (take n (drop at s)) l) (sym (drop-drop n at s)) ∙ sym (bytes_got n (drop at s) (omega (arith, length-drop at s)));
+              inside = (omega arith, omega arith);
+            };
+        placed = (omega arith, refl);
       }
 
-further : (s : List ℕ) (at next : ℕ) (t : Taken) → at ≤ next → TakenInside s next t → TakenInside s at t
-further s at next (Bytes a e) h i = (omega arith, i.1, i.2)
-further s at next (TakenRefused n) h i = tt
-
-pub delimited_taken : {s : List ℕ} {at n : ℕ} {c : Cursor} {t : Taken} → VarintPost s at (Value n c) → TakePost s c.at n t → DelimitedPost s at t
+pub delimited_failed : {s : List ℕ} {at : ℕ} {e : ReadError} → VarintPost s at (Err e) → (r : Result (Part × Cursor) ReadError) → IsErrAnd r (λ y. y ≡ e)
+    → DelimitedPost s at r
 unfolding delimited_of
-delimited_taken {s} {at} {c = c} {t = t} p q =
-    record { answer = q.answer ∙ then_same _ p.answer; inside = further s at c.at t (omega (arith, p.inside.0)) q.inside }
+delimited_failed p (Ok x) h = absurd h
+delimited_failed p (Err y) h = record { read = failed p _ (Err y) h; placed = tt }
 
--- ---- an answer that is a refusal
-
--- The tags of `Taken`, `Tag` and `Skipped` other than that of a value.
-abbrev pub NoBytes : Taken → Type 0
-NoBytes t = E.tag_of (E.declared taken-enum) t ≡ 1
-
-abbrev pub NoTag : Tag → Type 0
-NoTag t = E.tag_of (E.declared tag-enum) t ≡ 1
-
-abbrev pub NoSkip : Skipped → Type 0
-NoSkip t = E.tag_of (E.declared skipped-enum) t ≡ 1
-
-no_bytes : (s : List ℕ) (t : Taken) → NoBytes t → refused (taken_refusal t) ≡ taken_means s t
-no_bytes s (Bytes a e) h = absurd (let z : ⊥ = omega arith in z)
-no_bytes s (TakenRefused n) h = refl
-
-no_tag : (s : List ℕ) (t : Tag) → NoTag t → refused (tag_refusal t) ≡ tag_means s t
-no_tag s (TagValue v c) h = absurd (let z : ⊥ = omega arith in z)
-no_tag s (TagRefused n) h = refl
-
-no_skip : (s : List ℕ) (t : Skipped) → NoSkip t → refused (skipped_refusal t) ≡ skipped_means s t
-no_skip s (To c) h = absurd (let z : ⊥ = omega arith in z)
-no_skip s (SkipRefused n) h = refl
-
-module _ {s : List ℕ} {at n : ℕ} where
-  pub bytes_not_read : {t : Taken} → NoBytes t → DelimitedPost s at t → n ≡ taken_refusal t → refused n ≡ delimited_of (drop at s)
-  bytes_not_read {t} k p e = ap refused e ∙ no_bytes s t k ∙ p.answer
-
-  pub tag_not_read : {t : Tag} → NoTag t → TagPost s at t → n ≡ tag_refusal t → refused n ≡ tag_of (drop at s)
-  tag_not_read {t} k p e = ap refused e ∙ no_tag s t k ∙ p.answer
-
-  pub not_skipped : {w : ℕ} {t : Skipped} → NoSkip t → SkipPost s w at t → n ≡ skipped_refusal t → refused n ≡ skip_of w (drop at s)
-  not_skipped {t = t} k p e = ap refused e ∙ no_skip s t k ∙ p.answer
+pub delimited_taken : {s : List ℕ} {at n : ℕ} {c : Cursor} → VarintPost s at (Ok (n, c)) → (r : Result (Part × Cursor) ReadError) → TakePost s c.at n r
+    → DelimitedPost s at r
+unfolding delimited_of
+delimited_taken p (Ok x) q =
+    record {
+      read = record { answer = q.read.answer ∙ then_same _ p.answer; inside = (omega (arith, p.inside.0, q.read.inside.0), q.read.inside.1) };
+      placed = (omega (arith, p.inside.0, q.placed.0), q.placed.1);
+    }
+delimited_taken p (Err y) q = record { read = record { answer = q.read.answer ∙ then_same _ p.answer; inside = tt }; placed = tt }
 
 -- ---- skipping
-
-pub past_refused : (t : Taken) {n : ℕ} → NoBytes t → n ≡ taken_refusal t → SkipRefused n ≡ past_of t
-past_refused (Bytes a e) h q = absurd (let z : ⊥ = omega arith in z)
-past_refused (TakenRefused m) h q = ap SkipRefused q
-
-past_means : (s : List ℕ) (t : Taken) → skipped_means s (past_of t) ≡ and_then (taken_means s t) (λ (d rest : List ℕ). got tt rest)
-past_means s (Bytes a e) = refl
-past_means s (TakenRefused n) = refl
-
-past_inside : (s : List ℕ) (at : ℕ) (t : Taken) → TakenInside s at t → SkippedInside s at (past_of t)
-past_inside s at (Bytes a e) i = (omega arith, i.2)
-past_inside s at (TakenRefused n) i = tt
-
-pub skip_varint_past : {s : List ℕ} {at v : ℕ} {c : Cursor} → VarintPost s at (Value v c) → SkipPost s 0 at (To c)
-unfolding skip_of
-skip_varint_past p = record { answer = then_same _ p.answer; inside = (omega (arith, p.inside.0), p.inside.1) }
 
 -- The wire type decides.
 pub skip_number : (t : ℕ) → t % 8 ≡ 0 → (l : List ℕ) → skip_of t l ≡ and_then (varint64 l) (λ v rest. got tt rest)
 unfolding skip_of
 skip_number t e l = rw e
 
+pub skip_fixed64 : (t : ℕ) → t % 8 ≡ 1 → (l : List ℕ) → skip_of t l ≡ and_then (bytes_of 8 l) (λ v rest. got tt rest)
+unfolding skip_of
+skip_fixed64 t e l = rw e
+
 pub skip_bytes : (t : ℕ) → t % 8 ≡ 2 → (l : List ℕ) → skip_of t l ≡ and_then (delimited_of l) (λ d rest. got tt rest)
 unfolding skip_of
 skip_bytes t e l = rw e
 
-module _ {s : List ℕ} {at t : ℕ} {r : Skipped} where
-  pub skip_as : t % 8 ≡ 0 → SkipPost s 0 at r → SkipPost s t at r
-  skip_as e p = record { answer = p.answer ∙ skip_number 0 refl (drop at s) ∙ sym (skip_number t e (drop at s)); inside = p.inside }
+pub skip_fixed32 : (t : ℕ) → t % 8 ≡ 5 → (l : List ℕ) → skip_of t l ≡ and_then (bytes_of 4 l) (λ v rest. got tt rest)
+unfolding skip_of
+skip_fixed32 t e l = rw e
 
-  from_taken : (k : Taken) {x : Read (List ℕ)} → r ≡ past_of k → taken_means s k ≡ x → TakenInside s at k
-      → and_then x (λ (d rest : List ℕ). got tt rest) ≡ skip_of t (drop at s) → SkipPost s t at r
-  from_taken k past e i f =
-      subst (λ (z : Skipped). SkipPost s t at z) (sym past) (record { answer = past_means s k ∙ then_same _ e ∙ f; inside = past_inside s at k i })
+-- Past a value that was read, and where it could not be read.
+module _
+    {A B : Type 0}
+    {says : A → B}
+    {n : ℕ}
+    {s : List ℕ}
+    {at t : ℕ}
+    {reading : List ℕ → Read B}
+    (is : (l : List ℕ) → skip_of t l ≡ and_then (reading l) (λ v rest. got tt rest))
+  where
+  pub skipped_past : {a : A} {c : Cursor} → ReadPost says n s at reading (Ok (a, c)) → SkipPost s t at (Ok c)
+  skipped_past p = record { answer = then_same _ p.answer ∙ sym (is (drop at s)); inside = (omega (arith, p.inside.0), p.inside.1) }
 
-  module _ {k : Taken} (past : r ≡ past_of k) where
-    pub skip_fixed64 : t % 8 ≡ 1 → TakePost s at 8 k → SkipPost s t at r
-    unfolding skip_of
-    skip_fixed64 e p = from_taken k past p.answer p.inside (sym (rw e))
+  pub skip_failed : {e : ReadError} → ReadPost says n s at reading (Err e) → (r : Result Cursor ReadError) → IsErrAnd r (λ y. y ≡ e) → SkipPost s t at r
+  skip_failed p (Ok x) h = absurd h
+  skip_failed p (Err y) h = record { answer = stopped p _ h ∙ sym (is (drop at s)); inside = tt }
 
-    pub skip_delimited : t % 8 ≡ 2 → DelimitedPost s at k → SkipPost s t at r
-    skip_delimited e p = from_taken k past p.answer p.inside (sym (skip_bytes t e (drop at s)))
-
-    pub skip_fixed32 : t % 8 ≡ 5 → TakePost s at 4 k → SkipPost s t at r
-    unfolding skip_of
-    skip_fixed32 e p = from_taken k past p.answer p.inside (sym (rw e))
-
-pub skip_unknown : (s : List ℕ) (at t : ℕ) → (t % 8 ≡ 0 → ⊥) → (t % 8 ≡ 1 → ⊥) → (t % 8 ≡ 2 → ⊥) → (t % 8 ≡ 5 → ⊥) → SkipPost s t at (SkipRefused 6)
+pub skip_unknown : (s : List ℕ) (at t : ℕ) → (t % 8 ≡ 0 → ⊥) → (t % 8 ≡ 1 → ⊥) → (t % 8 ≡ 2 → ⊥) → (t % 8 ≡ 5 → ⊥)
+    → SkipPost s t at (Err InvalidWireType)
 unfolding skip_of
 skip_unknown s at t a b d e = record { answer = sym (rw (ne_eqb _ _ a, ne_eqb _ _ b, ne_eqb _ _ d, ne_eqb _ _ e)); inside = tt }
 

@@ -14,7 +14,8 @@ use lib.Bits.{bit_or, bit_and, or_shifted_r, and_mask}
 use lib.Arith.{digits_lt}
 use lib.Dec.{ltb}
 use borrow.Author.Tests.{lt-ltb, le-ltb, ltb-true, ltb-false}
-use Rattle.wire.specs.declared.varint.Varint.TheVariants.{Value, Cut, Long}
+use Rattle.std.specs.Prelude.{Ok, Err}
+use Rattle.wire.specs.declared.read_error.ReadError.TheVariants.{Truncated, VarintTooLong}
 use Rattle.wire.specs.Reading.{Read, got, refused}
 use Rattle.wire.specs.Varints.{payload, varint_of, low_bits, varint64, varint_bytes, VarintPost}
 
@@ -132,10 +133,10 @@ unfolding varint64
 low_is l r e = ap (λ (x : Read ℕ). low_bits 64 x) (sym e)
 
 module _ {s : List ℕ} {start at w x : ℕ} (n : ℕ) (g : Begun 10 s start at (suc n) w x) where
-  cut_post : length s ≤ at → VarintPost s start Cut
+  cut_post : length s ≤ at → VarintPost s start (Err Truncated)
   cut_post h = record { answer = low_is (drop start s) (refused 3) (begun_end n g h); inside = tt }
 
-  last_post : {b v : ℕ} → at < length s → b ≡ get_or s at 0 → b < 128 → v ≡ (x + b * w) % 2 ^ 64 → VarintPost s start (Value v (record { at = at + 1 }))
+  last_post : {b v : ℕ} → at < length s → b ≡ get_or s at 0 → b < 128 → v ≡ (x + b * w) % 2 ^ 64 → VarintPost s start (Ok (v, record { at = at + 1 }))
   last_post {b} inside e l f =
       record {
         answer =
@@ -145,10 +146,10 @@ module _ {s : List ℕ} {start at w x : ℕ} (n : ℕ) (g : Begun 10 s start at 
       }
 
 -- A varint at its first byte.
-pub no_byte : {s : List ℕ} {at : ℕ} → length s ≤ at → VarintPost s at Cut
+pub no_byte : {s : List ℕ} {at : ℕ} → length s ≤ at → VarintPost s at (Err Truncated)
 no_byte {s} {at} h = cut_post 9 (begun_none 10 s at) h
 
-pub one_byte : {s : List ℕ} {at b : ℕ} → at < length s → b ≡ get_or s at 0 → b < 128 → VarintPost s at (Value b (record { at = at + 1 }))
+pub one_byte : {s : List ℕ} {at b : ℕ} → at < length s → b ≡ get_or s at 0 → b < 128 → VarintPost s at (Ok (b, record { at = at + 1 }))
 one_byte {s} {at} h e l = last_post 9 (begun_none 10 s at) h e l (omega arith)
 
 -- Where the reader of a long varint is: n bytes were read, and acc has the low 64 bits of their value.
@@ -165,18 +166,18 @@ module _ {s : List ℕ} {start at n acc : ℕ} (r : Reading s start at n acc) wh
   left : (m : ℕ) → 10 - n ≡ m → Begun 10 s start at m (2 ^ (7 * n)) r.exact
   left m e = subst (λ (k : ℕ). Begun 10 s start at k (2 ^ (7 * n)) r.exact) e r.begun
 
-  pub reading_long : 10 ≤ n → VarintPost s start Long
+  pub reading_long : 10 ≤ n → VarintPost s start (Err VarintTooLong)
   reading_long h = record { answer = low_is (drop start s) (refused 4) (begun_long (left 0 (omega (arith, r.few)))); inside = tt }
 
   module _ (fewer : n < 10) where
-    pub reading_cut : length s ≤ at → VarintPost s start Cut
+    pub reading_cut : length s ≤ at → VarintPost s start (Err Truncated)
     reading_cut h = cut_post (9 - n) (left (suc (9 - n)) (omega arith)) h
 
     module _ {b : ℕ} (inside : at < length s) (e : b ≡ get_or s at 0) where
       put_is : put n acc b ≡ (r.exact + b % 128 * 2 ^ (7 * n)) % 2 ^ 64
       put_is = ap (λ (x : ℕ). put n x b) r.low ∙ put_sum n r.exact b fewer r.begun.small
 
-      pub reading_last : b < 128 → VarintPost s start (Value (put n acc b) (record { at = at + 1 }))
+      pub reading_last : b < 128 → VarintPost s start (Ok (put n acc b, record { at = at + 1 }))
       reading_last l =
           last_post (9 - n) (left (suc (9 - n)) (omega arith)) inside e l
           (put_is ∙ ap (λ (x : ℕ). (r.exact + x * 2 ^ (7 * n)) % 2 ^ 64) (let f : b % 128 ≡ b = omega arith in f))

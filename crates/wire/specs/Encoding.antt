@@ -1,9 +1,9 @@
 -- Writing a state (document 01, module 2): "The writer's order is 1, 2, 3 unless 1, 4 unless 0, 112; inside 2, 3, 4 unless 0, then 5 and 6
 -- if present."
-use Rattle.std.specs.Prelude.{◌≡◌, List, [], ◌++◌, cond, ℕ, ◌+◌, ◌-◌, ◌^◌, ◌<◌, ltb, leb, eqb, length, drop}
+use Rattle.std.specs.Prelude.{◌≡◌, List, [], ◌++◌, cond, ℕ, ◌+◌, ◌-◌, ◌^◌, ◌<◌, ltb, leb, eqb, length, drop, Result, Ok, Err}
 use Rattle.std.proofs.Math.Option.{Option, none, some}
-use Rattle.wire.specs.declared.encoding.Encoded.{Encoded}
-use Rattle.wire.specs.declared.encoding.Encoded.TheVariants.{Written, Short}
+use Rattle.wire.specs.declared.encoding.EncodeError.{EncodeError}
+use Rattle.wire.specs.declared.encoding.EncodeError.TheVariants.{OutputTooShort}
 use Rattle.wire.specs.Varints.{varint_bytes}
 use Rattle.wire.specs.Fields.{tag, VARINT, LEN}
 use Rattle.wire.specs.State.{HllState, State}
@@ -87,16 +87,19 @@ pub record Output : Type 0 where
 unfoldable pub encode_step : State → ℕ → Output
 encode_step st room = cond (leb (length (encode_of st)) room) (record { answer = 0; bytes = encode_of st }) (record { answer = 23; bytes = [] })
 
--- Document 01's number of each answer, and how many bytes were written.
-abbrev pub encoded_number : Encoded → ℕ
-encoded_number (Written n) = 0
-encoded_number Short = 23
+-- Document 01's number of the error, and of each answer; and how many bytes were written.
+abbrev pub encode_error_number : EncodeError → ℕ
+encode_error_number OutputTooShort = 23
 
-abbrev pub encoded_length : Encoded → ℕ
-encoded_length (Written n) = n
-encoded_length Short = 0
+abbrev pub encoded_number : Result ℕ EncodeError → ℕ
+encoded_number (Ok n) = 0
+encoded_number (Err e) = encode_error_number e
 
-pub record EncodePost (st : State) (out : List ℕ) (r : Encoded) (after : List ℕ) : Type 0 where
+abbrev pub encoded_length : Result ℕ EncodeError → ℕ
+encoded_length (Ok n) = n
+encoded_length (Err e) = 0
+
+pub record EncodePost (st : State) (out : List ℕ) (r : Result ℕ EncodeError) (after : List ℕ) : Type 0 where
   pub answer : encoded_number r ≡ (encode_step st (length out)).answer
   pub written : encoded_length r ≡ length (encode_step st (length out)).bytes
   pub output : after ≡ (encode_step st (length out)).bytes ++ drop (length (encode_step st (length out)).bytes) out

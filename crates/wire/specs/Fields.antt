@@ -1,12 +1,9 @@
 -- Tags, the bytes of a field, and fields that are skipped, from the Protocol Buffers encoding document, section "Message Structure".
-use Rattle.std.specs.Prelude.{◌≡◌, List, [], ◌∷◌, Bool, cond, ◌&&◌, ℕ, zero, suc, ◌+◌, ◌*◌, ◌-◌, ◌/◌, ◌%◌, ◌^◌, ◌≤◌, ◌<◌, ltb, leb, eqb, length, take, drop}
-use Rattle.wire.specs.declared.fields.Tag.{Tag}
-use Rattle.wire.specs.declared.fields.Tag.TheVariants.{Value, Refused as TagRefused}
-use Rattle.wire.specs.declared.fields.Taken.{Taken}
-use Rattle.wire.specs.declared.fields.Taken.TheVariants.{Bytes, Refused as TakenRefused}
-use Rattle.wire.specs.declared.fields.Skipped.{Skipped}
-use Rattle.wire.specs.declared.fields.Skipped.TheVariants.{To, Refused as SkipRefused}
-use Rattle.wire.specs.Reading.{Read, got, refused, and_then}
+use Rattle.std.specs.Prelude.{◌≡◌, List, [], ◌∷◌, Bool, cond, ◌&&◌, ℕ, zero, suc, ◌+◌, ◌*◌, ◌/◌, ◌%◌, ◌^◌, ◌≤◌, ltb, leb, eqb, length, take, drop, Result, IfOk}
+use Rattle.wire.specs.declared.read_error.ReadError.{ReadError}
+use Rattle.wire.specs.declared.varint.Cursor.{Cursor}
+use Rattle.wire.specs.declared.fields.Part.{Part}
+use Rattle.wire.specs.Reading.{Read, got, refused, and_then, answer_of, ReadPost}
 use Rattle.wire.specs.Varints.{varint64}
 
 -- "The tag of a record is encoded as a varint formed from the field number and the wire type via the formula
@@ -65,63 +62,26 @@ module _ {A : Type 0} (field : ℕ → List ℕ → A → Read A) where
   unfoldable pub message_of : List ℕ → A → Read A
   message_of l a = fields_of (length l) l a
 
--- What the answers of `read_tag`, `take` and `length_delimited`, and `skip` say of the bytes that they read from.
-abbrev pub tag_means : List ℕ → Tag → Read ℕ
-tag_means s (Value t c) = got t (drop c.at s)
-tag_means s (TagRefused n) = refused n
+-- What `read_tag` answers at a position.
+abbrev pub TagPost : List ℕ → ℕ → Result (ℕ × Cursor) ReadError → Type 0
+TagPost s at r = ReadPost (λ t. t) 1 s at tag_of r
 
-abbrev pub taken_means : List ℕ → Taken → Read (List ℕ)
-taken_means s (Bytes start end) = got (take (end - start) (drop start s)) (drop end s)
-taken_means s (TakenRefused n) = refused n
+-- The bytes at a place.
+abbrev pub bytes_at : List ℕ → Part → List ℕ
+bytes_at s p = take p.len (drop p.start s)
 
-abbrev pub skipped_means : List ℕ → Skipped → Read (Unit {0})
-skipped_means s (To c) = got tt (drop c.at s)
-skipped_means s (SkipRefused n) = refused n
+-- Where the bytes of a field stand, and a cursor past them: `reading` finds those bytes.
+pub record TakenPost (s : List ℕ) (at : ℕ) (reading : List ℕ → Read (List ℕ)) (r : Result (Part × Cursor) ReadError) : Type 0 where
+  pub read : ReadPost (bytes_at s) 0 s at reading r
+  pub placed : IfOk r (λ (p : Part × Cursor). (at ≤ p.0.start) × (p.0.start + p.0.len ≡ p.1.at))
 
--- The positions go on from where reading began, and lie inside.
-abbrev pub TagInside : List ℕ → ℕ → Tag → Type 0
-TagInside s at (Value t c) = (at < c.at) × (c.at ≤ length s)
-TagInside s at (TagRefused n) = Unit
+abbrev pub TakePost : List ℕ → ℕ → ℕ → Result (Part × Cursor) ReadError → Type 0
+TakePost s at n r = TakenPost s at (bytes_of n) r
 
-abbrev pub TakenInside : List ℕ → ℕ → Taken → Type 0
-TakenInside s at (Bytes start end) = (at ≤ start) × (start ≤ end) × (end ≤ length s)
-TakenInside s at (TakenRefused n) = Unit
+abbrev pub DelimitedPost : List ℕ → ℕ → Result (Part × Cursor) ReadError → Type 0
+DelimitedPost s at r = TakenPost s at delimited_of r
 
-abbrev pub SkippedInside : List ℕ → ℕ → Skipped → Type 0
-SkippedInside s at (To c) = (at ≤ c.at) × (c.at ≤ length s)
-SkippedInside s at (SkipRefused n) = Unit
-
--- Reading at a position: the answer is the definition's for the rest of the bytes.
-pub record TagPost (s : List ℕ) (at : ℕ) (r : Tag) : Type 0 where
-  pub answer : tag_means s r ≡ tag_of (drop at s)
-  pub inside : TagInside s at r
-
-pub record TakePost (s : List ℕ) (at n : ℕ) (r : Taken) : Type 0 where
-  pub answer : taken_means s r ≡ bytes_of n (drop at s)
-  pub inside : TakenInside s at r
-
-pub record DelimitedPost (s : List ℕ) (at : ℕ) (r : Taken) : Type 0 where
-  pub answer : taken_means s r ≡ delimited_of (drop at s)
-  pub inside : TakenInside s at r
-
-pub record SkipPost (s : List ℕ) (t at : ℕ) (r : Skipped) : Type 0 where
-  pub answer : skipped_means s r ≡ skip_of t (drop at s)
-  pub inside : SkippedInside s at r
-
--- Past bytes that were taken.
-abbrev pub past_of : Taken → Skipped
-past_of (Bytes start end) = To (record { at = end })
-past_of (TakenRefused n) = SkipRefused n
-
--- Document 01's number of a refusal.
-abbrev pub tag_refusal : Tag → ℕ
-tag_refusal (Value t c) = 0
-tag_refusal (TagRefused n) = n
-
-abbrev pub taken_refusal : Taken → ℕ
-taken_refusal (Bytes start end) = 0
-taken_refusal (TakenRefused n) = n
-
-abbrev pub skipped_refusal : Skipped → ℕ
-skipped_refusal (To c) = 0
-skipped_refusal (SkipRefused n) = n
+-- What `skip` answers: a cursor past the field's value.
+pub record SkipPost (s : List ℕ) (t at : ℕ) (r : Result Cursor ReadError) : Type 0 where
+  pub answer : answer_of (λ (c : Cursor). got tt (drop c.at s)) r ≡ skip_of t (drop at s)
+  pub inside : IfOk r (λ (c : Cursor). (at ≤ c.at) × (c.at ≤ length s))

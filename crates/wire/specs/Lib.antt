@@ -5,7 +5,6 @@ pub mod Fields
 pub mod State
 pub mod View
 pub mod Compact
-pub mod SmallList
 pub mod Encoding
 pub mod Layout
 pub mod Examples

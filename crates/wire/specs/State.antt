@@ -1,20 +1,14 @@
 -- A state: the message AggregatorStateProto, with the nested message HyperLogLogPlusUniqueStateProto in its field 112 (document 01, module 2).
-use Rattle.std.specs.Prelude.{◌≡◌, List, [], Bool, true, false, cond, ◌||◌, ℕ, ◌+◌, ◌%◌, ◌^◌, ◌≤◌, eqb, length, take, drop}
+use Rattle.std.specs.Prelude.{◌≡◌, List, [], Bool, true, false, cond, ◌||◌, ℕ, ◌+◌, ◌%◌, ◌^◌, ◌≤◌, eqb, length, take, drop, Result, IfOk}
 use Rattle.std.proofs.Math.Option.{Option, none, some}
-use Rattle.wire.specs.declared.state.Part.{Part}
+use Rattle.wire.specs.declared.read_error.ReadError.{ReadError}
+use Rattle.wire.specs.declared.varint.Cursor.{Cursor}
+use Rattle.wire.specs.declared.fields.Part.{Part}
 use Rattle.wire.specs.declared.state.HllFields.{HllFields}
 use Rattle.wire.specs.declared.state.Fields.{Fields}
-use Rattle.wire.specs.declared.state.HllStep.{HllStep}
-use Rattle.wire.specs.declared.state.HllStep.TheVariants.{Next as HllNext, Refused as HllStepRefused}
-use Rattle.wire.specs.declared.state.HllParsed.{HllParsed}
-use Rattle.wire.specs.declared.state.HllParsed.TheVariants.{Read as HllRead, Refused as HllRefused}
-use Rattle.wire.specs.declared.state.Step.{Step}
-use Rattle.wire.specs.declared.state.Step.TheVariants.{Next, Refused as StepRefused}
-use Rattle.wire.specs.declared.state.Parsed.{Parsed}
-use Rattle.wire.specs.declared.state.Parsed.TheVariants.{Read as StateRead, Refused as StateRefused}
-use Rattle.wire.specs.Reading.{Read, got, refused, and_then}
+use Rattle.wire.specs.Reading.{Read, got, refused, and_then, answer_of, ReadPost}
 use Rattle.wire.specs.Varints.{varint64}
-use Rattle.wire.specs.Fields.{tag, VARINT, LEN, delimited_of, skip_of, message_of}
+use Rattle.wire.specs.Fields.{tag, VARINT, LEN, delimited_of, skip_of, field_of, message_of}
 
 -- The nested message. A number is the unsigned one of the same bits; "an absent data field and an empty one are told apart".
 pub record HllState : Type 0 where
@@ -154,87 +148,33 @@ pub record HllInside (s : List ℕ) (h : HllFields) : Type 0 where
   pub «data» : PartInside s h.data_present h.«data»
   pub sparse_data : PartInside s h.sparse_data_present h.sparse_data
 
--- What an answer says of the bytes that it was read from, and that its positions lie inside. A nested message `m` is a part of the
--- state's bytes `s`; the positions of its cursor are those of `m`, and the positions of its data fields those of `s`.
-abbrev pub hll_step_means : List ℕ → List ℕ → HllStep → Read HllState
-hll_step_means s m (HllNext h c) = got (hll_of s h) (drop c.at m)
-hll_step_means s m (HllStepRefused n) = refused n
-
-abbrev pub HllStepInside : List ℕ → HllStep → Type 0
-HllStepInside s (HllNext h c) = HllInside s h
-HllStepInside s (HllStepRefused n) = Unit
-
-abbrev pub HllStepForward : List ℕ → ℕ → HllStep → Type 0
-HllStepForward m at (HllNext h c) = (at ≤ c.at) × (c.at ≤ length m)
-HllStepForward m at (HllStepRefused n) = Unit
-
-abbrev pub hll_means : List ℕ → HllParsed → Read HllState
-hll_means s (HllRead h) = got (hll_of s h) []
-hll_means s (HllRefused n) = refused n
-
-abbrev pub HllParsedInside : List ℕ → HllParsed → Type 0
-HllParsedInside s (HllRead h) = HllInside s h
-HllParsedInside s (HllRefused n) = Unit
-
-abbrev pub step_means : List ℕ → Step → Read State
-step_means s (Next f c) = got (state_of s f) (drop c.at s)
-step_means s (StepRefused n) = refused n
-
-abbrev pub StepInside : List ℕ → Step → Type 0
-StepInside s (Next f c) = HllInside s f.hll
-StepInside s (StepRefused n) = Unit
-
-abbrev pub StepForward : List ℕ → ℕ → Step → Type 0
-StepForward s at (Next f c) = (at ≤ c.at) × (c.at ≤ length s)
-StepForward s at (StepRefused n) = Unit
-
-abbrev pub parsed_means : List ℕ → Parsed → Read State
-parsed_means s (StateRead f) = got (state_of s f) []
-parsed_means s (StateRefused n) = refused n
-
-abbrev pub ParsedInside : List ℕ → Parsed → Type 0
-ParsedInside s (StateRead f) = HllInside s f.hll
-ParsedInside s (StateRefused n) = Unit
-
 -- `parse`: for every list of bytes the answer is the definition's, and the positions of its data fields lie inside the bytes. Free: at which of several places
 -- that hold the same bytes a part starts, and where a present part of no bytes does.
-pub record ParsePost (s : List ℕ) (r : Parsed) : Type 0 where
-  pub answer : parsed_means s r ≡ read_state s
-  pub inside : ParsedInside s r
+pub record ParsePost (s : List ℕ) (r : Result Fields ReadError) : Type 0 where
+  pub answer : answer_of (λ (f : Fields). got (state_of s f) []) r ≡ read_state s
+  pub inside : IfOk r (λ (f : Fields). HllInside s f.hll)
 
--- Reading from a position: the answer is that of `reading`, and the next position is `at` or further on.
-pub record StepPost (s : List ℕ) (at : ℕ) (reading : State → Read State) (f : Fields) (r : Step) : Type 0 where
-  pub answer : step_means s r ≡ reading (state_of s f)
-  pub inside : HllInside s f.hll → StepInside s r
-  pub forward : StepForward s at r
+-- One outer field, read at a position, where f was read before.
+pub record StepPost (s : List ℕ) (at : ℕ) (f : Fields) (r : Result (Fields × Cursor) ReadError) : Type 0 where
+  pub read : ReadPost (state_of s) 1 s at (λ (l : List ℕ). field_of outer_field l (state_of s f)) r
+  pub inside : HllInside s f.hll → IfOk r (λ (p : Fields × Cursor). HllInside s p.0.hll)
 
 -- m is the part of s that starts at `base`.
 pub record Within (s : List ℕ) (base : ℕ) (m : List ℕ) : Type 0 where
   pub same : m ≡ take (length m) (drop base s)
   pub room : base + length m ≤ length s
 
--- The same in a nested message, whatever the state's bytes are that it is a part of.
-pub record HllStepPost (m : List ℕ) (base at : ℕ) (reading : HllState → Read HllState) (h : HllFields) (r : HllStep) : Type 0 where
-  pub answer : (s : List ℕ) → Within s base m → hll_step_means s m r ≡ reading (hll_of s h)
-  pub inside : (s : List ℕ) → Within s base m → HllInside s h → HllStepInside s r
-  pub forward : HllStepForward m at r
+-- One field of a nested message m, whatever the state's bytes are that it is a part of: the positions of its cursor are those of m, and the positions of its
+-- data fields those of the state's bytes.
+pub record HllStepPost (m : List ℕ) (base at : ℕ) (h : HllFields) (r : Result (HllFields × Cursor) ReadError) : Type 0 where
+  pub answer : (s : List ℕ) → Within s base m
+      → answer_of (λ (p : HllFields × Cursor). got (hll_of s p.0) (drop p.1.at m)) r ≡ field_of hll_field (drop at m) (hll_of s h)
+  pub inside : (s : List ℕ) → Within s base m → HllInside s h → IfOk r (λ (p : HllFields × Cursor). HllInside s p.0)
+  pub forward : IfOk r (λ (p : HllFields × Cursor). (at + 1 ≤ p.1.at) × (p.1.at ≤ length m))
 
-pub record HllPost (m : List ℕ) (base : ℕ) (h : HllFields) (r : HllParsed) : Type 0 where
-  pub answer : (s : List ℕ) → Within s base m → hll_means s r ≡ read_hll m (hll_of s h)
-  pub inside : (s : List ℕ) → Within s base m → HllInside s h → HllParsedInside s r
-
--- Document 01's number of a refusal.
-abbrev pub hll_step_refusal : HllStep → ℕ
-hll_step_refusal (HllNext h c) = 0
-hll_step_refusal (HllStepRefused n) = n
-
-abbrev pub hll_refusal : HllParsed → ℕ
-hll_refusal (HllRead h) = 0
-hll_refusal (HllRefused n) = n
-
-abbrev pub step_refusal : Step → ℕ
-step_refusal (Next f c) = 0
-step_refusal (StepRefused n) = n
+pub record HllPost (m : List ℕ) (base : ℕ) (h : HllFields) (r : Result HllFields ReadError) : Type 0 where
+  pub answer : (s : List ℕ) → Within s base m → answer_of (λ (g : HllFields). got (hll_of s g) []) r ≡ read_hll m (hll_of s h)
+  pub inside : (s : List ℕ) → Within s base m → HllInside s h → IfOk r (λ (g : HllFields). HllInside s g)
 
 -- The bytes of a data field, none where it is absent: what `data` and `sparse_data` hand out.
 abbrev pub bytes_or_none : Option (List ℕ) → List ℕ

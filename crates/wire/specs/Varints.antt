@@ -1,10 +1,10 @@
 -- Varints, from the Protocol Buffers encoding document, section "Base 128 Varints". Every definition has a width: the largest number
 -- of bytes. A state's varints have width 10, a list's gaps width 5.
-use Rattle.std.specs.Prelude.{◌≡◌, List, [], ◌∷◌, cond, ℕ, zero, suc, ◌+◌, ◌*◌, ◌/◌, ◌%◌, ◌^◌, ◌≤◌, ◌<◌, ltb, length, drop}
+use Rattle.std.specs.Prelude.{◌≡◌, List, [], ◌∷◌, cond, ℕ, zero, suc, ◌+◌, ◌*◌, ◌/◌, ◌%◌, ◌^◌, ltb, length, drop, Result}
 use Rattle.std.proofs.lemmas.List.Edits.{sets}
-use Rattle.wire.specs.declared.varint.Varint.{Varint}
-use Rattle.wire.specs.declared.varint.Varint.TheVariants.{Value, Cut, Long}
-use Rattle.wire.specs.Reading.{Read, got, refused}
+use Rattle.wire.specs.declared.read_error.ReadError.{ReadError}
+use Rattle.wire.specs.declared.varint.Cursor.{Cursor}
+use Rattle.wire.specs.Reading.{Read, got, refused, ReadPost}
 
 -- "The resulting integer is built by appending together the 7-bit payloads of its constituent bytes", the first payload lowest.
 abbrev pub payload : ℕ → Read ℕ → Read ℕ
@@ -32,28 +32,13 @@ unfoldable pub varint_bytes : ℕ → ℕ → List ℕ
 varint_bytes zero v = []
 varint_bytes (suc n) v = cond (ltb v 128) (v ∷ []) ((v % 128 + 128) ∷ varint_bytes n (v / 128))
 
--- What an answer of `read_varint` says of the bytes that it read from: `Cut` is document 01's 3, and `Long` its 4.
-abbrev pub varint_means : List ℕ → Varint → Read ℕ
-varint_means s (Value v c) = got v (drop c.at s)
-varint_means s Cut = refused 3
-varint_means s Long = refused 4
+-- What `read_varint` answers at a position: the varint there, and a cursor past it.
+abbrev pub VarintPost : List ℕ → ℕ → Result (ℕ × Cursor) ReadError → Type 0
+VarintPost s at r = ReadPost (λ v. v) 1 s at varint64 r
 
--- The next cursor is further on, and no further than the end.
-abbrev pub VarintInside : List ℕ → ℕ → Varint → Type 0
-VarintInside s at (Value v c) = (at < c.at) × (c.at ≤ length s)
-VarintInside s at Cut = Unit
-VarintInside s at Long = Unit
-
--- Reading at a position: the answer is the definition's for the rest of the bytes.
-pub record VarintPost (s : List ℕ) (at : ℕ) (r : Varint) : Type 0 where
-  pub answer : varint_means s r ≡ varint64 (drop at s)
-  pub inside : VarintInside s at r
-
--- Document 01's number of a refusal.
-abbrev pub varint_refusal : Varint → ℕ
-varint_refusal (Value v c) = 0
-varint_refusal Cut = 3
-varint_refusal Long = 4
+-- And `read_varint32`: "a 32-bit field takes the low 32 of them" (module 1).
+abbrev pub Varint32Post : List ℕ → ℕ → Result (ℕ × Cursor) ReadError → Type 0
+Varint32Post s at r = ReadPost (λ v. v) 1 s at (λ l. low_bits 32 (varint64 l)) r
 
 -- Writing at a position: the bytes stand there, everything else is as it was, and the answer is the position past them.
 pub record PutPost (out : List ℕ) (at : ℕ) (bytes : List ℕ) (r : ℕ) (after : List ℕ) : Type 0 where

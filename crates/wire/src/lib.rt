@@ -8,6 +8,7 @@
 pub mod compact;
 pub mod encoding;
 pub mod fields;
+pub mod read_error;
 pub mod small_list;
 pub mod state;
 pub mod varint;

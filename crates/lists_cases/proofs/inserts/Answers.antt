@@ -9,7 +9,7 @@ pub returns-then-not-merges : goal.returns-then-not-merges
 returns-then-not-merges c = never
 
 pub has_distinct_slots-requires : goal.has_distinct_slots-requires
-has_distinct_slots-requires c = let m = c.merges.ensures (c.if-not-merges.false) in (c.requires, m.order, m.each)
+has_distinct_slots-requires c = let m = c.merges.ensures (c.if-not-merges.false) in (m.order, m.each)
 
 pub returns-then-not-has_distinct_slots : goal.returns-then-not-has_distinct_slots
 returns-then-not-has_distinct_slots c = never

@@ -1,12 +1,16 @@
 -- The loop over the records: each turn adds one call to the run.
-use Rattle.std.proofs.Common.{◌≡◌, length, take}
-use Rattle.rollup.specs.Accumulator.{mem}
+use Rattle.std.proofs.Common.{◌≡◌, length}
+use Rattle.rollup.specs.Accumulator.{kept_of}
+use Rattle.rollup.specs.Lent.{mem_of, SameLent}
 use Rattle.rollup.specs.Stages.{KnownDistinct}
 use Rattle.batch.specs.Records.{left}
 use Rattle.batch.proofs.RollLaws.{Going}
 use Rattle.batch.proofs.records.add_records.Given as goal
 
 abbrev pub invariant-loop-record : goal.invariant-loop-record
-invariant-loop-record l = Going l.batch (mem l.initial.registers l.initial.sparse l.initial.pending) (length l.initial.scratch) (left l.record-iterator) l.records l.head (mem l.registers l.sparse l.pending) l.initial.answers l.answers
-    × (l.record-iterator.batch.now ≡ l.batch)
-    × KnownDistinct l.distinct l.head.precision l.head.sparse_precision (take l.head.sparse_len l.sparse)
+invariant-loop-record l = record {
+  going : Going l.batch (mem_of l.initial.memory) (length l.initial.memory.scratch.now) (left l.record-iterator) l.records l.fitted.head (mem_of l.memory) l.initial.answers l.answers;
+  batch : l.record-iterator.batch.now ≡ l.batch;
+  same : SameLent l.initial.memory l.memory;
+  known : KnownDistinct l.fitted.distinct l.fitted.head.precision l.fitted.head.sparse_precision (kept_of l.fitted.head (mem_of l.memory))
+}

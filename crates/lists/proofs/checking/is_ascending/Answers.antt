@@ -1,12 +1,15 @@
-use Rattle.std.proofs.Common.{sym, ◌∙◌, arith}
-use Rattle.lists.proofs.CheckingLaws.{rising_start, rising_turn, rising_end}
+use Rattle.std.proofs.Common.{sym, ◌∙◌}
+use Rattle.lists.proofs.CheckingLaws.{neighbours, rising_turn, rising_end}
 use Rattle.lists.proofs.checking.is_ascending.Goals as goal
 
-pub loop-i-init : goal.loop-i-init
-loop-i-init c = (omega arith, rising_start c.args.l.now)
-
-pub loop-i-preserved : goal.loop-i-preserved
-loop-i-preserved c = (omega arith, c.loop-i.invariant.1 ∙ rising_turn c.args.l.now c.loop-i.i c.loop-i.all c.both-all.result c.loop-i-test.true c.both-all.ensures)
+pub loop-pair-preserved : goal.loop-pair-preserved
+loop-pair-preserved c =
+    let i = c.loop-pair.invariant in
+    let s = rw c.in-Some.is at c.next.ensures.steps in
+    (s.0 ∙ i.0, i.1 ∙ rising_turn c.loop-pair.all (neighbours _ _ _ _ i.0 s.1.0 s.1.1 s.1.2))
 
 pub returns : goal.returns
-returns c = sym (c.loop-i.invariant.1 ∙ rising_end c.args.l.now c.loop-i.i c.loop-i.all c.loop-i-test.false)
+returns c =
+    let i = c.loop-pair.invariant in
+    let s = rw c.in-None.is at c.next.ensures.steps in
+    sym (i.1 ∙ rising_end c.loop-pair.all _ _ i.0 s.1.0)

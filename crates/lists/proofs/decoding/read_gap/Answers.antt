@@ -1,100 +1,42 @@
--- The bytes read so far, each at its weight, and what the rest reads as make up the gap (`Begun`): each byte of 128 or more moves one payload
--- over.
-use Rattle.std.proofs.Common.{ℕ, ◌+◌, ◌-◌, ◌*◌, arith, rules}
-use Rattle.wire.proofs.VarintLaws.{Begun, begun_none, begun_more}
-use Rattle.lists.proofs.DecodingLaws.{gap_cut, gap_last, gap_long}
+-- Each byte of 128 or more makes just the weight of the next, which is taken off where that one is added.
+use Rattle.lists.specs.Lists.{GapPost}
+use Rattle.lists.proofs.DecodingLaws.{handed_on, cut_1, last_1, cut_2, last_2, cut_3, last_3, cut_4, last_4, cut_5, last_5, long_5}
 use Rattle.lists.proofs.decoding.read_gap.Goals as goal
 
-pub returns-then-s-at : goal.returns-then-s-at
-returns-then-s-at c = gap_cut 4 (begun_none 5 _ _) c.if-s-at.true
+pub returns-in_err-a : goal.returns-in_err-a
+returns-in_err-a c = handed_on (GapPost c.args.bytes.now c.args.at) c.from_residual.result c.in_err-a.field-0.0 c.from_residual.ensures.1
+    (cut_1 c.args.bytes.now c.args.at (rw c.in_err-a.was at c.gap_byte.ensures))
 
 pub returns-then-a-lt128 : goal.returns-then-a-lt128
-returns-then-a-lt128 c = gap_last 4 (begun_none 5 _ _) (search rules) c.wide-a.ensures.0 c.if-a-lt128.true (omega arith) (omega arith)
+returns-then-a-lt128 c = last_1 c.args.bytes.now c.args.at c.in_ok-a.a (rw c.in_ok-a.was at c.gap_byte.ensures) c.if-a-lt128.true
 
-pub returns-then-s-at1 : goal.returns-then-s-at1
-returns-then-s-at1 c =
-    let value1 : ℕ = c.wide-a.result - 128 in
-    let past1 : let o = c.args in Begun 5 o.s.now o.at (o.at + 1) 4 128 value1 = begun_more 4 (begun_none 5 _ _) (search rules) c.wide-a.ensures.0 c.if-a-lt128.false (omega (arith, c.wide-a.ensures.1)) in
-    gap_cut 3 past1 c.if-s-at1.true
+pub returns-in_err-b : goal.returns-in_err-b
+returns-in_err-b c = handed_on (GapPost c.args.bytes.now c.args.at) c.from_residual-in_err-b.result c.in_err-b.field-0.0 c.from_residual-in_err-b.ensures.1
+    (cut_2 c.args.bytes.now c.args.at c.in_ok-a.a (rw c.in_ok-a.was at c.gap_byte.ensures) c.if-a-lt128.false (rw c.in_err-b.was at c.gap_byte-2.ensures))
 
 pub returns-then-b-lt128 : goal.returns-then-b-lt128
-returns-then-b-lt128 c =
-    let value1 : ℕ = c.wide-a.result - 128 in
-    let past1 : let o = c.args in Begun 5 o.s.now o.at (o.at + 1) 4 128 value1 = begun_more 4 (begun_none 5 _ _) (search rules) c.wide-a.ensures.0 c.if-a-lt128.false (omega (arith, c.wide-a.ensures.1)) in
-    let g = past1 in
-    gap_last 3 g (search rules) c.wide-b.ensures.0 (search rules) (omega arith) (omega (arith, g.small))
+returns-then-b-lt128 c = last_2 c.args.bytes.now c.args.at c.in_ok-a.a (rw c.in_ok-a.was at c.gap_byte.ensures) c.if-a-lt128.false c.in_ok-b.b (rw c.in_ok-b.was at c.gap_byte-2.ensures) c.if-b-lt128.true
 
-pub returns-then-s-at2 : goal.returns-then-s-at2
-returns-then-s-at2 c =
-    let value1 : ℕ = c.wide-a.result - 128 in
-    let value2 : ℕ = value1 + c.wide-b.result * 128 - 16384 in
-    let past1 : let o = c.args in Begun 5 o.s.now o.at (o.at + 1) 4 128 value1 = begun_more 4 (begun_none 5 _ _) (search rules) c.wide-a.ensures.0 c.if-a-lt128.false (omega (arith, c.wide-a.ensures.1)) in
-    let past2 : let o = c.args in Begun 5 o.s.now o.at (o.at + 1 + 1) 3 16384 value2 = begun_more 3 past1 (search rules) c.wide-b.ensures.0 c.if-b-lt128.false (omega (arith, c.wide-b.ensures.1)) in
-    gap_cut 2 past2 c.if-s-at2.true
+pub returns-in_err-c : goal.returns-in_err-c
+returns-in_err-c c = handed_on (GapPost c.args.bytes.now c.args.at) c.from_residual-in_err-c.result c.in_err-c.field-0.0 c.from_residual-in_err-c.ensures.1
+    (cut_3 c.args.bytes.now c.args.at c.in_ok-a.a (rw c.in_ok-a.was at c.gap_byte.ensures) c.if-a-lt128.false c.in_ok-b.b (rw c.in_ok-b.was at c.gap_byte-2.ensures) c.if-b-lt128.false (rw c.in_err-c.was at c.gap_byte-3.ensures))
 
 pub returns-then-c-lt128 : goal.returns-then-c-lt128
-returns-then-c-lt128 c =
-    let value1 : ℕ = c.wide-a.result - 128 in
-    let value2 : ℕ = value1 + c.wide-b.result * 128 - 16384 in
-    let past1 : let o = c.args in Begun 5 o.s.now o.at (o.at + 1) 4 128 value1 = begun_more 4 (begun_none 5 _ _) (search rules) c.wide-a.ensures.0 c.if-a-lt128.false (omega (arith, c.wide-a.ensures.1)) in
-    let past2 : let o = c.args in Begun 5 o.s.now o.at (o.at + 1 + 1) 3 16384 value2 = begun_more 3 past1 (search rules) c.wide-b.ensures.0 c.if-b-lt128.false (omega (arith, c.wide-b.ensures.1)) in
-    let g = past2 in
-    gap_last 2 g (search rules) c.wide-c.ensures.0 (search rules) (omega arith) (omega (arith, g.small))
+returns-then-c-lt128 c = last_3 c.args.bytes.now c.args.at c.in_ok-a.a (rw c.in_ok-a.was at c.gap_byte.ensures) c.if-a-lt128.false c.in_ok-b.b (rw c.in_ok-b.was at c.gap_byte-2.ensures) c.if-b-lt128.false c.in_ok-c.c (rw c.in_ok-c.was at c.gap_byte-3.ensures) c.if-c-lt128.true
 
-pub returns-then-s-at3 : goal.returns-then-s-at3
-returns-then-s-at3 c =
-    let value1 : ℕ = c.wide-a.result - 128 in
-    let value2 : ℕ = value1 + c.wide-b.result * 128 - 16384 in
-    let value3 : ℕ = value2 + c.wide-c.result * 16384 - 2097152 in
-    let past1 : let o = c.args in Begun 5 o.s.now o.at (o.at + 1) 4 128 value1 = begun_more 4 (begun_none 5 _ _) (search rules) c.wide-a.ensures.0 c.if-a-lt128.false (omega (arith, c.wide-a.ensures.1)) in
-    let past2 : let o = c.args in Begun 5 o.s.now o.at (o.at + 1 + 1) 3 16384 value2 = begun_more 3 past1 (search rules) c.wide-b.ensures.0 c.if-b-lt128.false (omega (arith, c.wide-b.ensures.1)) in
-    let past3 : let o = c.args in Begun 5 o.s.now o.at (o.at + 1 + 1 + 1) 2 2097152 value3 = begun_more 2 past2 (search rules) c.wide-c.ensures.0 c.if-c-lt128.false (omega (arith, c.wide-c.ensures.1)) in
-    gap_cut 1 past3 c.if-s-at3.true
+pub returns-in_err-d : goal.returns-in_err-d
+returns-in_err-d c = handed_on (GapPost c.args.bytes.now c.args.at) c.from_residual-in_err-d.result c.in_err-d.field-0.0 c.from_residual-in_err-d.ensures.1
+    (cut_4 c.args.bytes.now c.args.at c.in_ok-a.a (rw c.in_ok-a.was at c.gap_byte.ensures) c.if-a-lt128.false c.in_ok-b.b (rw c.in_ok-b.was at c.gap_byte-2.ensures) c.if-b-lt128.false c.in_ok-c.c (rw c.in_ok-c.was at c.gap_byte-3.ensures) c.if-c-lt128.false (rw c.in_err-d.was at c.gap_byte-4.ensures))
 
 pub returns-then-d-lt128 : goal.returns-then-d-lt128
-returns-then-d-lt128 c =
-    let value1 : ℕ = c.wide-a.result - 128 in
-    let value2 : ℕ = value1 + c.wide-b.result * 128 - 16384 in
-    let value3 : ℕ = value2 + c.wide-c.result * 16384 - 2097152 in
-    let past1 : let o = c.args in Begun 5 o.s.now o.at (o.at + 1) 4 128 value1 = begun_more 4 (begun_none 5 _ _) (search rules) c.wide-a.ensures.0 c.if-a-lt128.false (omega (arith, c.wide-a.ensures.1)) in
-    let past2 : let o = c.args in Begun 5 o.s.now o.at (o.at + 1 + 1) 3 16384 value2 = begun_more 3 past1 (search rules) c.wide-b.ensures.0 c.if-b-lt128.false (omega (arith, c.wide-b.ensures.1)) in
-    let past3 : let o = c.args in Begun 5 o.s.now o.at (o.at + 1 + 1 + 1) 2 2097152 value3 = begun_more 2 past2 (search rules) c.wide-c.ensures.0 c.if-c-lt128.false (omega (arith, c.wide-c.ensures.1)) in
-    let g = past3 in
-    gap_last 1 g (search rules) c.wide-d.ensures.0 (search rules) (omega arith) (omega (arith, g.small))
+returns-then-d-lt128 c = last_4 c.args.bytes.now c.args.at c.in_ok-a.a (rw c.in_ok-a.was at c.gap_byte.ensures) c.if-a-lt128.false c.in_ok-b.b (rw c.in_ok-b.was at c.gap_byte-2.ensures) c.if-b-lt128.false c.in_ok-c.c (rw c.in_ok-c.was at c.gap_byte-3.ensures) c.if-c-lt128.false c.in_ok-d.d (rw c.in_ok-d.was at c.gap_byte-4.ensures) c.if-d-lt128.true
 
-pub returns-then-s-at4 : goal.returns-then-s-at4
-returns-then-s-at4 c =
-    let value1 : ℕ = c.wide-a.result - 128 in
-    let value2 : ℕ = value1 + c.wide-b.result * 128 - 16384 in
-    let value3 : ℕ = value2 + c.wide-c.result * 16384 - 2097152 in
-    let value4 : ℕ = value3 + c.wide-d.result * 2097152 - 268435456 in
-    let past1 : let o = c.args in Begun 5 o.s.now o.at (o.at + 1) 4 128 value1 = begun_more 4 (begun_none 5 _ _) (search rules) c.wide-a.ensures.0 c.if-a-lt128.false (omega (arith, c.wide-a.ensures.1)) in
-    let past2 : let o = c.args in Begun 5 o.s.now o.at (o.at + 1 + 1) 3 16384 value2 = begun_more 3 past1 (search rules) c.wide-b.ensures.0 c.if-b-lt128.false (omega (arith, c.wide-b.ensures.1)) in
-    let past3 : let o = c.args in Begun 5 o.s.now o.at (o.at + 1 + 1 + 1) 2 2097152 value3 = begun_more 2 past2 (search rules) c.wide-c.ensures.0 c.if-c-lt128.false (omega (arith, c.wide-c.ensures.1)) in
-    let past4 : let o = c.args in Begun 5 o.s.now o.at (o.at + 1 + 1 + 1 + 1) 1 268435456 value4 = begun_more 1 past3 (search rules) c.wide-d.ensures.0 c.if-d-lt128.false (omega (arith, c.wide-d.ensures.1)) in
-    gap_cut 0 past4 c.if-s-at4.true
+pub returns-in_err-e : goal.returns-in_err-e
+returns-in_err-e c = handed_on (GapPost c.args.bytes.now c.args.at) c.from_residual-in_err-e.result c.in_err-e.field-0.0 c.from_residual-in_err-e.ensures.1
+    (cut_5 c.args.bytes.now c.args.at c.in_ok-a.a (rw c.in_ok-a.was at c.gap_byte.ensures) c.if-a-lt128.false c.in_ok-b.b (rw c.in_ok-b.was at c.gap_byte-2.ensures) c.if-b-lt128.false c.in_ok-c.c (rw c.in_ok-c.was at c.gap_byte-3.ensures) c.if-c-lt128.false c.in_ok-d.d (rw c.in_ok-d.was at c.gap_byte-4.ensures) c.if-d-lt128.false (rw c.in_err-e.was at c.gap_byte-5.ensures))
 
 pub returns-then-e-lt16 : goal.returns-then-e-lt16
-returns-then-e-lt16 c =
-    let value1 : ℕ = c.wide-a.result - 128 in
-    let value2 : ℕ = value1 + c.wide-b.result * 128 - 16384 in
-    let value3 : ℕ = value2 + c.wide-c.result * 16384 - 2097152 in
-    let value4 : ℕ = value3 + c.wide-d.result * 2097152 - 268435456 in
-    let past1 : let o = c.args in Begun 5 o.s.now o.at (o.at + 1) 4 128 value1 = begun_more 4 (begun_none 5 _ _) (search rules) c.wide-a.ensures.0 c.if-a-lt128.false (omega (arith, c.wide-a.ensures.1)) in
-    let past2 : let o = c.args in Begun 5 o.s.now o.at (o.at + 1 + 1) 3 16384 value2 = begun_more 3 past1 (search rules) c.wide-b.ensures.0 c.if-b-lt128.false (omega (arith, c.wide-b.ensures.1)) in
-    let past3 : let o = c.args in Begun 5 o.s.now o.at (o.at + 1 + 1 + 1) 2 2097152 value3 = begun_more 2 past2 (search rules) c.wide-c.ensures.0 c.if-c-lt128.false (omega (arith, c.wide-c.ensures.1)) in
-    let past4 : let o = c.args in Begun 5 o.s.now o.at (o.at + 1 + 1 + 1 + 1) 1 268435456 value4 = begun_more 1 past3 (search rules) c.wide-d.ensures.0 c.if-d-lt128.false (omega (arith, c.wide-d.ensures.1)) in
-    let g = past4 in
-    gap_last 0 g (search rules) c.wide-e.ensures.0 (search rules) (omega arith) (omega (arith, g.small))
+returns-then-e-lt16 c = last_5 c.args.bytes.now c.args.at c.in_ok-a.a (rw c.in_ok-a.was at c.gap_byte.ensures) c.if-a-lt128.false c.in_ok-b.b (rw c.in_ok-b.was at c.gap_byte-2.ensures) c.if-b-lt128.false c.in_ok-c.c (rw c.in_ok-c.was at c.gap_byte-3.ensures) c.if-c-lt128.false c.in_ok-d.d (rw c.in_ok-d.was at c.gap_byte-4.ensures) c.if-d-lt128.false c.in_ok-e.e (rw c.in_ok-e.was at c.gap_byte-5.ensures) c.if-e-lt16.true
 
 pub returns : goal.returns
-returns c =
-    let value1 : ℕ = c.wide-a.result - 128 in
-    let value2 : ℕ = value1 + c.wide-b.result * 128 - 16384 in
-    let value3 : ℕ = value2 + c.wide-c.result * 16384 - 2097152 in
-    let value4 : ℕ = value3 + c.wide-d.result * 2097152 - 268435456 in
-    let past1 : let o = c.args in Begun 5 o.s.now o.at (o.at + 1) 4 128 value1 = begun_more 4 (begun_none 5 _ _) (search rules) c.wide-a.ensures.0 c.if-a-lt128.false (omega (arith, c.wide-a.ensures.1)) in
-    let past2 : let o = c.args in Begun 5 o.s.now o.at (o.at + 1 + 1) 3 16384 value2 = begun_more 3 past1 (search rules) c.wide-b.ensures.0 c.if-b-lt128.false (omega (arith, c.wide-b.ensures.1)) in
-    let past3 : let o = c.args in Begun 5 o.s.now o.at (o.at + 1 + 1 + 1) 2 2097152 value3 = begun_more 2 past2 (search rules) c.wide-c.ensures.0 c.if-c-lt128.false (omega (arith, c.wide-c.ensures.1)) in
-    let past4 : let o = c.args in Begun 5 o.s.now o.at (o.at + 1 + 1 + 1 + 1) 1 268435456 value4 = begun_more 1 past3 (search rules) c.wide-d.ensures.0 c.if-d-lt128.false (omega (arith, c.wide-d.ensures.1)) in
-    gap_long past4 (search rules) c.wide-e.ensures.0 c.if-e-lt16.false
+returns c = long_5 c.args.bytes.now c.args.at c.in_ok-a.a (rw c.in_ok-a.was at c.gap_byte.ensures) c.if-a-lt128.false c.in_ok-b.b (rw c.in_ok-b.was at c.gap_byte-2.ensures) c.if-b-lt128.false c.in_ok-c.c (rw c.in_ok-c.was at c.gap_byte-3.ensures) c.if-c-lt128.false c.in_ok-d.d (rw c.in_ok-d.was at c.gap_byte-4.ensures) c.if-d-lt128.false c.in_ok-e.e (rw c.in_ok-e.was at c.gap_byte-5.ensures) c.if-e-lt16.false

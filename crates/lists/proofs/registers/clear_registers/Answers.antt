@@ -1,10 +1,7 @@
--- Cleared from 0 on, all are zero.
-use Rattle.std.proofs.Common.{ℕ, List, ap, ◌∙◌}
-use Rattle.lists.specs.Registers.{registers_of, with_registers}
-use Rattle.lists.proofs.RegisterLaws.{cleared_all}
+-- The bytes of the registers become zero, and those past them stay.
+use Rattle.std.proofs.Common.{rules}
+use Rattle.lists.proofs.RegisterLaws.{cleared}
 use Rattle.lists.proofs.registers.clear_registers.Goals as goal
 
 pub returns : goal.returns
-returns c = c.clear_from.ensures
-    ∙ ap (λ (l : List ℕ). with_registers c.args.p l c.args.registers.now)
-    (cleared_all c.args.p (registers_of c.args.p c.args.registers.now))
+returns c = cleared c.args.p c.register_bytes.result c.args.registers.now c.fill.new.self c.register_bytes.ensures.0 (search rules)

@@ -1,17 +1,32 @@
--- The first registers are lowered, and the rest made zero.
-use Rattle.std.proofs.Common.{ℕ, ◌^◌, ◌≤◌, sym, ap, ◌∙◌, subst}
-use Rattle.lists.specs.Registers.{registers_of, with_registers, register_bytes, cleared_from}
-use Rattle.lists.proofs.RegisterLaws.{fewer_le, lower_whole}
+use Rattle.std.proofs.Common.{◌-◌, ◌^◌, ◌<◌, arith, rules}
+use Rattle.lists.proofs.RegisterLaws.{lower_start, lower_block, lower_turn, lower_holds, lower_end, lower_whole, fewer_bytes}
 use Rattle.lists.proofs.registers.lower_registers.Goals as goal
 
-pub clear_from-requires : goal.clear_from-requires
-clear_from-requires c = record {
-  holds = record { high = c.requires.holds.high; room = subst (λ (n : ℕ). register_bytes c.args.p ≤ n) (sym c.lower_blocks.auto.registers) c.requires.holds.room };
-  within = subst (λ (n : ℕ). n ≤ 2 ^ c.args.p) (sym c.register_count.ensures.0) (fewer_le c.args.p c.args.d c.args.registers.now c.requires);
-}
+pub loop-t-init : goal.loop-t-init
+loop-t-init c = lower_start c.args.p c.args.d c.args.registers.now c.requires
+
+pub lowered_block-r-requires : goal.lowered_block-r-requires
+lowered_block-r-requires c = let l = c.loop-t in
+    lower_block c.args.p c.args.d c.args.registers.now c.requires l.registers l.t (omega arith) l.invariant
+
+pub store_register-requires : goal.store_register-requires
+store_register-requires c = let l = c.loop-t in
+    lower_holds c.args.p c.args.d c.args.registers.now c.requires l.registers l.t (omega arith) l.invariant
+
+pub loop-t-preserved : goal.loop-t-preserved
+loop-t-preserved c = let l = c.loop-t in
+    lower_turn c.args.p c.args.d c.args.registers.now c.requires l.registers l.t
+    (let h : l.t < 2 ^ (c.args.p - c.args.d) = omega arith in h) l.invariant _ c.lowered_block-r.result c.lowered_block-r.ensures
+    c.store_register.ensures
+
+pub slice_bounds-fill-count : goal.slice_bounds-fill-count
+slice_bounds-fill-count c = omega (arith, fewer_bytes (c.args.p - c.args.d) c.args.p (omega arith))
+
+pub slice_bounds-fill-start : goal.slice_bounds-fill-start
+slice_bounds-fill-start c = omega (arith, fewer_bytes (c.args.p - c.args.d) c.args.p (omega arith))
 
 pub returns : goal.returns
-returns c = lower_whole c.args.p c.args.d c.args.registers.now c.requires c.lower_blocks.new.registers _ c.lower_blocks.ensures
-    (c.clear_from.ensures
-    ∙ ap (λ (n : ℕ). with_registers c.args.p (cleared_from c.args.p n (registers_of c.args.p c.lower_blocks.new.registers)) c.lower_blocks.new.registers)
-    c.register_count.ensures.0)
+returns c = let l = c.loop-t in
+    lower_whole c.args.p c.args.d c.args.registers.now c.requires l.registers c.fill.new.self c.register_bytes.result c.register_bytes-2.result
+    c.register_bytes.ensures.0 c.register_bytes-2.ensures.0
+    (lower_end c.args.p c.args.d c.args.registers.now c.requires l.registers l.t (omega arith) l.invariant) (search rules)

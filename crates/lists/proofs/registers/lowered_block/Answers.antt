@@ -1,10 +1,7 @@
 -- The first register of the block where it is not zero, and else the first that is not, gives what lowering register by register gives.
 use Rattle.std.proofs.Common.{arith}
-use Rattle.lists.proofs.RegisterLaws.{code_fits, code_read, code_small, code_scan, code_decides, code_block}
+use Rattle.lists.proofs.RegisterLaws.{code_read, code_small, code_scan, code_decides, code_block}
 use Rattle.lists.proofs.registers.lowered_block.Goals as goal
-
-pub overflow_mul-from : goal.overflow_mul-from
-overflow_mul-from c = omega (arith, code_fits c.args.registers.now c.args.d c.args.t c.register_count-block.result c.requires c.register_count-block.ensures.0)
 
 pub read_register-r-requires : goal.read_register-r-requires
 read_register-r-requires c = code_read c.args.registers.now c.args.d c.args.t c.register_count-block.result c.requires c.register_count-block.ensures.0
@@ -14,12 +11,6 @@ overflow_add-result c = omega (arith, code_small c.args.registers.now c.args.d c
 
 pub returns-then-r-ne0 : goal.returns-then-r-ne0
 returns-then-r-ne0 c = code_decides c.args.registers.now c.args.d c.args.t c.register_count-block.result c.requires c.register_count-block.ensures.0 c.read_register-r.result c.read_register-r.ensures c.if-r-ne0.true
-
-pub overflow_add-from : goal.overflow_add-from
-overflow_add-from c = omega (arith, code_fits c.args.registers.now c.args.d c.args.t c.register_count-block.result c.requires c.register_count-block.ensures.0)
-
-pub overflow_add-from-2 : goal.overflow_add-from-2
-overflow_add-from-2 c = omega (arith, code_fits c.args.registers.now c.args.d c.args.t c.register_count-block.result c.requires c.register_count-block.ensures.0)
 
 pub first_not_zero-at-requires : goal.first_not_zero-at-requires
 first_not_zero-at-requires c = code_scan c.args.registers.now c.args.d c.args.t c.register_count-block.result c.requires c.register_count-block.ensures.0

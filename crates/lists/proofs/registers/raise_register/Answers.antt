@@ -9,4 +9,4 @@ pub bounds-registers-i-2 : goal.bounds-registers-i-2
 bounds-registers-i-2 c = held c.args.i c.args.registers.now c.requires
 
 pub returns : goal.returns
-returns c = raise_post c.args.registers.now c.args.i c.args.rank c.max_u8.result c.max_u8.ensures
+returns c = raise_post c.args.registers.now c.args.i c.args.rank c.max.result c.max.ensures

@@ -11,5 +11,5 @@ returns-then-q-p c = row_lowered c.args.q c.args.p c.args.row.now c.args.registe
 pub max_into-requires : goal.max_into-requires
 max_into-requires c = row_both c.args.q c.args.p c.args.row.now c.args.registers.now c.requires c.if-q-p.false
 
-pub returns : goal.returns
-returns c = row_larger c.args.q c.args.p c.args.row.now c.args.registers.now c.requires _ c.if-q-p.false c.max_into.ensures
+pub returns-else-q-p : goal.returns-else-q-p
+returns-else-q-p c = row_larger c.args.q c.args.p c.args.row.now c.args.registers.now c.requires _ c.if-q-p.false c.max_into.ensures

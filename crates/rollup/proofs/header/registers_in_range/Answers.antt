@@ -1,20 +1,17 @@
--- Data that passed 12 is 2^p bytes, so that its largest register is its largest byte; no data has none above 0.
-use Rattle.wire.specs.State.{state_of}
+-- The registers that the data bytes hold are those bytes.
+use Rattle.std.proofs.Common.{◌∙◌, eq-eqb}
+use Rattle.rollup.specs.Header.{viewed}
 use Rattle.rollup.proofs.JudgeLaws.{data_high, data_holds, registers_none, registers_some}
 use Rattle.rollup.proofs.header.registers_in_range.Goals as goal
 
-pub returns-then-d-eq0 : goal.returns-then-d-eq0
-returns-then-d-eq0 c = let st = state_of c.args.bytes.now c.args.f in
-    registers_none st c.requires c.data-d.result.now c.data-d.ensures c.if-d-eq0.true
-
 pub largest_register-requires : goal.largest_register-requires
-largest_register-requires c = let st = state_of c.args.bytes.now c.args.f in
-    data_holds st c.requires c.data-d.result.now c.data-d.ensures c.if-d-eq0.false
+largest_register-requires c = data_holds (viewed c.args.view) c.requires c.data-d.result.now c.data-d.ensures c.if-d-eq0.false
 
 pub largest_rank-requires : goal.largest_rank-requires
-largest_rank-requires c = data_high (state_of c.args.bytes.now c.args.f) c.requires
+largest_rank-requires c = data_high (viewed c.args.view) c.requires
 
-pub returns : goal.returns
-returns c = let st = state_of c.args.bytes.now c.args.f in
-    registers_some st c.requires c.data-d.result.now c.data-d.ensures
-    c.if-d-eq0.false c.largest_register.result c.largest_rank.result c.largest_register.ensures c.largest_rank.ensures
+pub returns-then-d-eq0 : goal.returns-then-d-eq0
+returns-then-d-eq0 c = eq-eqb _ _ c.if-d-eq0.true ∙ registers_none (viewed c.args.view) c.requires c.data-d.result.now c.data-d.ensures c.if-d-eq0.true
+
+pub returns-else-d-eq0 : goal.returns-else-d-eq0
+returns-else-d-eq0 c = registers_some (viewed c.args.view) c.requires c.data-d.result.now c.data-d.ensures c.if-d-eq0.false _ _ c.largest_register.ensures c.largest_rank.ensures

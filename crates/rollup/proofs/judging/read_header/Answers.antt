@@ -1,23 +1,27 @@
--- Reading answers as the definition of reading does, and its refusal is handed on; what was read is asked by `validate_header`.
+-- Each refusal is the definition's, and so is the state (`read_2` to `read_yes`).
+use Rattle.std.proofs.Common.{ℕ, List, ap, sym, ◌∙◌, subst, Err, Bor}
+use Rattle.std.proofs.lemmas.Result.{err_from_is_err_and}
+use Rattle.rollup.specs.Judging.{HeaderPost}
 use Rattle.rollup.proofs.JudgeLaws.{read_2, read_refused, read_no, read_yes}
 use Rattle.rollup.proofs.judging.read_header.Goals as goal
 
-pub returns-then-bytes-gt2147483647 : goal.returns-then-bytes-gt2147483647
-returns-then-bytes-gt2147483647 c = read_2 c.args.bytes.now c.if-bytes-gt2147483647.true
+pub returns-then-bytes-gt2147483647-clause-read : goal.returns-then-bytes-gt2147483647-clause-read
+returns-then-bytes-gt2147483647-clause-read c = read_2 c.args.bytes.now c.if-bytes-gt2147483647.true
 
-pub returns-in_default : goal.returns-in_default
-returns-in_default c = let o = c.args in
-    read_refused o.bytes.now c.if-bytes-gt2147483647.false c.parsed_refusal.result c.in_default.field-0
-    c.parse-r.result c.in_default.is c.parse-r.ensures c.parsed_refusal.ensures
+pub returns-in_err-view-clause-read : goal.returns-in_err-view-clause-read
+returns-in_err-view-clause-read c =
+    let s = c.args.bytes.now in
+    let y = err_from_is_err_and c.from_residual.result c.from_residual.ensures.1 in
+    subst (HeaderPost s) (sym (y.1 ∙ ap Err y.2)) (read_refused s c.if-bytes-gt2147483647.false c.in_err-view.field-0.0 c.in_err-view.ensures.read)
 
-pub returns-then-n-ne0 : goal.returns-then-n-ne0
-returns-then-n-ne0 c = let o = c.args in
-    read_no o.bytes.now c.if-bytes-gt2147483647.false c.in-Read.f
-    (rw c.in-Read.is at c.parse-r.ensures) c.validate_header-n.result
-    c.validate_header-n.ensures c.if-n-ne0.true
+pub returns-in_err-validate_header-clause-read : goal.returns-in_err-validate_header-clause-read
+returns-in_err-validate_header-clause-read c =
+    let s = c.args.bytes.now in
+    let y = err_from_is_err_and c.from_residual-in_err-validate_header.result c.from_residual-in_err-validate_header.ensures.1 in
+    subst (HeaderPost s) (sym (y.1 ∙ ap Err y.2))
+    (read_no s c.if-bytes-gt2147483647.false c.in_ok-view.view c.in_ok-view.ensures.read (ap (λ (b : Bor (List ℕ)). b.now) c.in_ok-view.ensures.same) c.in_err-validate_header.field-0.0 c.in_err-validate_header.ensures)
 
-pub returns : goal.returns
-returns c = let o = c.args in
-    read_yes o.bytes.now c.if-bytes-gt2147483647.false c.in-Read.f
-    (rw c.in-Read.is at c.parse-r.ensures) c.validate_header-n.result
-    c.validate_header-n.ensures c.if-n-ne0.false
+pub returns-clause-read : goal.returns-clause-read
+returns-clause-read c =
+    let s = c.args.bytes.now in
+    read_yes s c.if-bytes-gt2147483647.false c.in_ok-view.view c.in_ok-view.ensures.read (ap (λ (b : Bor (List ℕ)). b.now) c.in_ok-view.ensures.same) c.in_ok-validate_header.ensures

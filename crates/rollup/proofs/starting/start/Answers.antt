@@ -1,16 +1,24 @@
--- The values are copied, or the row is loaded as registers, and the head is that of what comes in.
-use Rattle.std.proofs.Common.{arith}
+-- The row is loaded as registers, or the values are copied.
+use Rattle.std.proofs.Common.{ap}
+use Rattle.rollup.specs.declared.accumulator.Accumulator.{Accumulator}
+use Rattle.rollup.specs.declared.accumulator.Form.TheVariants.{Sparse, Dense}
+use Rattle.rollup.specs.Accumulator.{head_with}
 use Rattle.rollup.proofs.StartLaws.{start_load, start_list_lem, start_dense_lem}
 use Rattle.rollup.proofs.starting.start.Goals as goal
 
-pub copy_run-n-requires : goal.copy_run-n-requires
-copy_run-n-requires c = (omega arith, omega arith, omega (arith, c.requires.in_sparse))
-
-pub returns-then-row-eq0 : goal.returns-then-row-eq0
-returns-then-row-eq0 c = start_list_lem c.args.registers.now c.args.sparse.now c.args.x c.args.row.now c.args.values.now c.requires c.first_list.result c.copy_run-n.result _ c.if-row-eq0.true c.copy_run-n.ensures.0 c.copy_run-n.ensures.1 c.first_list.ensures
-
 pub load_registers-requires : goal.load_registers-requires
-load_registers-requires c = start_load c.args.registers.now c.args.sparse.now c.args.x c.args.row.now c.args.values.now c.requires c.if-row-eq0.false
+load_registers-requires c = start_load c.requires c.if-row-ne0.true
 
-pub returns : goal.returns
-returns c = start_dense_lem c.args.registers.now c.args.sparse.now c.args.x c.args.row.now c.args.values.now c.requires c.first_dense.result _ _ c.if-row-eq0.false c.load_registers.ensures c.first_dense.ensures
+pub returns-then-row-ne0-clause-shows : goal.returns-then-row-ne0-clause-shows
+returns-then-row-ne0-clause-shows c =
+    let x = c.args.x in
+    start_dense_lem c.requires c.args.memory.now.pending.now c.if-row-ne0.true c.load_registers.ensures
+    (ap
+    (λ (f : Accumulator). head_with Dense x.mask x.value_type x.num_values x.precision x.sparse_precision x.sparse_size f.sparse_len f.sparse_bytes f.pending_len)
+    c.new.ensures)
+
+pub returns-clause-shows : goal.returns-clause-shows
+returns-clause-shows c =
+    let x = c.args.x in
+    start_list_lem c.requires c.args.memory.now.pending.now c.if-row-ne0.false c.append.ensures
+    (ap (λ (f : Accumulator). head_with Sparse x.mask x.value_type x.num_values x.precision x.sparse_precision x.sparse_size c.args.k x.list_bytes f.pending_len) c.new.ensures)

@@ -1,25 +1,31 @@
 -- Two bytes below 128 are a tag and a value or a length as the general reader finds them, and the tag decides as it does there.
-use Prim.Native.Nat.{◌+◌}
-use Rattle.wire.specs.declared.varint.Varint.TheVariants.{Value}
-use Rattle.wire.specs.Varints.{VarintPost}
-use Rattle.wire.proofs.CompactLaws.{compact_hll_number, compact_hll_bytes}
+use mathlib.Core.Path.{refl}
+use native.Mathlib.Omega.{arith}
+use Rattle.wire.proofs.StateLaws.{hll_number, hll_bytes, sparse_size_is, precision_is, sparse_precision_is, data_is, sparse_data_is}
+use Rattle.wire.proofs.CompactLaws.{small_tag, small_number, small_bytes}
 use Rattle.wire.proofs.compact.compact_hll_field.Goals as goal
-
-pub compact_hll_bytes-requires : goal.compact_hll_bytes-requires
-compact_hll_bytes-requires c =
-    let value_read : let o = c.args in VarintPost o.m.now (o.at + 1) (Value c.in-Value-v.value (record { at = o.at + 1 + 1 })) = rw c.in-Value-v.is at c.small-v.ensures in
-    (value_read.inside.1, c.requires.1)
 
 pub returns-in-16 : goal.returns-in-16
 returns-in-16 c =
-    let tag_read : let o = c.args in VarintPost o.m.now o.at (Value c.in-Value.tag (record { at = o.at + 1 })) = rw c.in-Value.is at c.small-t.ensures in
-    let value_read : let o = c.args in VarintPost o.m.now (o.at + 1) (Value c.in-Value-v.value (record { at = o.at + 1 + 1 })) = rw c.in-Value-v.is at c.small-v.ensures in
-    compact_hll_number tag_read value_read
-    c.in-16.is c.with_hll_number.ensures
+    hll_number (small_tag c.in_ok-tag.ensures (rw c.in-16.is (omega arith))) (sparse_size_is _ c.in-16.is) (small_number c.in_ok-v.ensures) (λ s. refl)
+    (λ s i. record { «data» = i.«data»; sparse_data = i.sparse_data })
 
-pub returns-in-42 : goal.returns-in-42
-returns-in-42 c =
-    let tag_read : let o = c.args in VarintPost o.m.now o.at (Value c.in-Value.tag (record { at = o.at + 1 })) = rw c.in-Value.is at c.small-t.ensures in
-    let value_read : let o = c.args in VarintPost o.m.now (o.at + 1) (Value c.in-Value-v.value (record { at = o.at + 1 + 1 })) = rw c.in-Value-v.is at c.small-v.ensures in
-    compact_hll_bytes tag_read value_read
-    c.args.base c.args.h c.compact_hll_bytes.result c.in-42.is c.compact_hll_bytes.ensures
+pub returns-in-24 : goal.returns-in-24
+returns-in-24 c =
+    hll_number (small_tag c.in_ok-tag.ensures (rw c.in-24.is (omega arith))) (precision_is _ c.in-24.is) (small_number c.in_ok-v.ensures) (λ s. refl)
+    (λ s i. record { «data» = i.«data»; sparse_data = i.sparse_data })
+
+pub returns-in-32 : goal.returns-in-32
+returns-in-32 c =
+    hll_number (small_tag c.in_ok-tag.ensures (rw c.in-32.is (omega arith))) (sparse_precision_is _ c.in-32.is) (small_number c.in_ok-v.ensures) (λ s. refl)
+    (λ s i. record { «data» = i.«data»; sparse_data = i.sparse_data })
+
+pub returns-in_ok-part-in-42 : goal.returns-in_ok-part-in-42
+returns-in_ok-part-in-42 c = hll_bytes (small_tag c.in_ok-tag.ensures (rw c.in-42.is (omega arith))) (data_is _ c.in-42.is)
+    (small_bytes c.in_ok-v.ensures c.from.ensures _ c.take.ensures c.in_ok-part-in-42.ensures.value) (λ s. rw c.moved-data.ensures)
+    (λ s k i. record { «data» = record { inside = rw c.moved-data.ensures k; absent = tt }; sparse_data = i.sparse_data })
+
+pub returns-in_ok-part-in-50 : goal.returns-in_ok-part-in-50
+returns-in_ok-part-in-50 c = hll_bytes (small_tag c.in_ok-tag.ensures (rw c.in-50.is (omega arith))) (sparse_data_is _ c.in-50.is)
+    (small_bytes c.in_ok-v.ensures c.from-in-50.ensures _ c.take-in-50.ensures c.in_ok-part-in-50.ensures.value) (λ s. rw c.moved-sparse_data.ensures)
+    (λ s k i. record { «data» = i.«data»; sparse_data = record { inside = rw c.moved-sparse_data.ensures k; absent = tt } })

@@ -1,12 +1,7 @@
--- A byte below 128 is a whole varint. Of `Other` nothing is promised.
-use mathlib.Core.Path.{refl}
-use native.Mathlib.Omega.{arith}
-use borrow.Author.Rules.{rules}
+-- A byte below 128 is a whole varint.
+use Rattle.std.proofs.Common.{rules}
 use Rattle.wire.proofs.VarintLaws.{one_byte}
 use Rattle.wire.proofs.compact.small.Goals as goal
 
-pub overflow_cast-b : goal.overflow_cast-b
-overflow_cast-b c = omega (arith, c.type_inv.s c.args.at)
-
-pub returns : goal.returns
-returns c = one_byte (search rules) refl (search rules)
+pub returns-in-Some : goal.returns-in-Some
+returns-in-Some c = (one_byte (search rules) (search rules) (search rules), search rules)

@@ -3,10 +3,10 @@ use Rattle.wire.proofs.EncodingLaws.{first_room, next_room, put_both, number_is}
 use Rattle.wire.proofs.encoding.put_number.Goals as goal
 
 pub put_varint-next-requires : goal.put_varint-next-requires
-put_varint-next-requires c = first_room c.args.out.now c.args.at (number_is c.args.field c.args.v) c.requires
+put_varint-next-requires c = first_room c.args.out.now c.args.at (number_is c.from.ensures c.args.v) c.requires
 
 pub put_varint-requires : goal.put_varint-requires
-put_varint-requires c = next_room (number_is c.args.field c.args.v) c.put_varint-next.ensures c.requires
+put_varint-requires c = next_room (number_is c.from.ensures c.args.v) c.put_varint-next.ensures c.requires
 
 pub returns : goal.returns
-returns c = put_both (number_is c.args.field c.args.v) c.put_varint-next.ensures c.put_varint.ensures
+returns c = put_both (number_is c.from.ensures c.args.v) c.put_varint-next.ensures c.put_varint.ensures

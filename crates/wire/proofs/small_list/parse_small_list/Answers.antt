@@ -1,28 +1,27 @@
--- Each byte is the one that `SmallStart` names.
-use mathlib.Core.Path.{refl}
-use mathlib.Core.Logic.{inl, inr}
-use native.Mathlib.Omega.{arith}
-use Rattle.wire.proofs.SmallListLaws.{small_seen, small_answer}
+-- Each byte is the one that the pattern names, and the nested message stands at 6, or at 8 behind a value type.
+use Rattle.std.proofs.Common.{rules, ◌≡◌, ◌-◌, List, ℕ, length, take, drop}
+use mathlib.Core.Path.{ap, refl, sym, ◌∙◌}
+use Rattle.wire.proofs.SmallListLaws.{SmallBytes, SmallFront, SmallPlace, rest_length, no_value_type, with_value_type, small_list_got}
+use Rattle.wire.proofs.small_list.parse_small_list.Goals.{in-32, in_default-rest}
 use Rattle.wire.proofs.small_list.parse_small_list.Goals as goal
 
-pub is_small_nested-requires : goal.is_small_nested-requires
-is_small_nested-requires c = record { long = c.if-s-lt8.false; type_tag = c.if-s-ne8.false; type_value = c.if-s-ne112.false; count_tag = c.if-s-ne16.false; version_tag = c.if-s-ne24.false; version_value = c.if-s-ne2.false; value_type = (inr (refl, c.if-s-eq32.true, refl)) }
-
-pub small_fields-requires : goal.small_fields-requires
-small_fields-requires c =
-    let n = small_seen c.is_small_nested.ensures (c.if-not-is_small_nested.false) in
-    (omega arith, n.nested.room)
-
-pub returns-then-s-eq32 : goal.returns-then-s-eq32
-returns-then-s-eq32 c = small_answer (record { long = c.if-s-lt8.false; type_tag = c.if-s-ne8.false; type_value = c.if-s-ne112.false; count_tag = c.if-s-ne16.false; version_tag = c.if-s-ne24.false; version_value = c.if-s-ne2.false; value_type = (inr (refl, c.if-s-eq32.true, refl)) }) (small_seen c.is_small_nested.ensures (c.if-not-is_small_nested.false)) c.small_fields.result c.small_fields.ensures
-
-pub is_small_nested-requires-2 : goal.is_small_nested-requires-2
-is_small_nested-requires-2 c = record { long = c.if-s-lt8.false; type_tag = c.if-s-ne8.false; type_value = c.if-s-ne112.false; count_tag = c.if-s-ne16.false; version_tag = c.if-s-ne24.false; version_value = c.if-s-ne2.false; value_type = (inl (refl, refl)) }
-
-pub small_fields-requires-2 : goal.small_fields-requires-2
-small_fields-requires-2 c =
-    let n = small_seen c.is_small_nested-2.ensures (c.if-not-is_small_nested-2.false) in
-    (omega arith, n.nested.room)
-
 pub returns : goal.returns
-returns c = small_answer (record { long = c.if-s-lt8.false; type_tag = c.if-s-ne8.false; type_value = c.if-s-ne112.false; count_tag = c.if-s-ne16.false; version_tag = c.if-s-ne24.false; version_value = c.if-s-ne2.false; value_type = (inl (refl, refl)) }) (small_seen c.is_small_nested-2.ensures (c.if-not-is_small_nested-2.false)) c.small_fields-2.result c.small_fields-2.ensures
+returns c =
+    let s : List ℕ = c.args.s.now in
+    let n : List ℕ = c.if-rest-lt2.value_type.1.now in
+    let len : ℕ = length (take (length n - 11) (drop 11 n)) in
+    let bytes : SmallBytes n len = record {
+      long = c.in-130.len_at_least;
+      rest = rest_length n 11;
+      nested = search rules;
+      nested_high = search rules;
+      nested_length = sym c.from.ensures ∙ c.if-from-list.false;
+      size = search rules;
+      precision = search rules;
+      sparse_precision = search rules;
+      sparse_data = search rules;
+      data_length = sym c.from-else-from-list.ensures ∙ c.if-from-list-2.false;
+    } in
+    let front : SmallFront s = record { type_tag = search rules; type_value = search rules; count_tag = search rules; version_tag = search rules; version_value = search rules } in
+    let place : SmallPlace s n c.if-rest-lt2.value_type.0 = elim c.if-rest-lt2.branch [ in-32 w ↦ with_value_type refl w.in-32.len_at_least (search rules) (ap (λ x. x.0) w.value_type-is) (ap (λ x. x.1.now) w.value_type-is) | in_default-rest w ↦ no_value_type c.in-8.len_at_least (ap (λ x. x.1.now) w.value_type-is) (ap (λ x. x.0) w.value_type-is) ] in
+    small_list_got place bytes front c.if-count-value_type-ge128.false c.from-5.ensures c.from-6.ensures c.from-2.ensures c.from-3.ensures c.from-4.ensures refl

@@ -1,29 +1,47 @@
--- The tag picks the same arm of the code and of the definition, and the call there answers as that arm does.
-use Rattle.wire.specs.declared.fields.Tag.TheVariants.{Value}
-use Rattle.wire.specs.Fields.{TagPost}
-use Rattle.wire.proofs.ReadingLaws.{tag_not_read}
-use Rattle.wire.proofs.StateLaws.{step_refused, field_number, field_nested, field_other}
+-- The tag picks the same arm of the code and of the definition, and what is read there is what that arm reads.
+use mathlib.Core.Path.{refl}
+use Rattle.wire.proofs.StateLaws.{outer_number, outer_number_failed, outer_count, outer_count_failed, nested_cut, nested_failed, nested_read, outer_other, outer_other_failed, aggregator_type_is, encoding_version_is, value_type_is}
 use Rattle.wire.proofs.state.outer_field.Goals as goal
 
-pub returns-in_default : goal.returns-in_default
-returns-in_default c = step_refused _ (tag_not_read c.in_default.in_default-own.keys2 c.read_tag-r.ensures c.tag_refusal.ensures)
+pub returns-in_err-aggregator_type-in-8 : goal.returns-in_err-aggregator_type-in-8
+returns-in_err-aggregator_type-in-8 c = outer_number_failed c.in_ok-tag.ensures (aggregator_type_is _ c.in-8.is) c.in_err-aggregator_type-in-8.ensures _ c.from_residual-in_err-aggregator_type-in-8.ensures.1
 
-pub other-requires : goal.other-requires
-other-requires c =
-    let opened : let o = c.args in TagPost o.s.now o.c.at (Value c.in-Value.tag c.in-Value.next) = rw c.in-Value.is at c.read_tag-r.ensures in
-    opened.inside.1
+pub returns-in_ok-aggregator_type-in-8 : goal.returns-in_ok-aggregator_type-in-8
+returns-in_ok-aggregator_type-in-8 c = outer_number c.in_ok-tag.ensures (aggregator_type_is _ c.in-8.is) c.in_ok-aggregator_type-in-8.ensures refl (λ i. i)
 
-pub returns-in-8 : goal.returns-in-8
-returns-in-8 c =
-    let opened : let o = c.args in TagPost o.s.now o.c.at (Value c.in-Value.tag c.in-Value.next) = rw c.in-Value.is at c.read_tag-r.ensures in
-    field_number opened c.in-8.is c.number.ensures
+pub returns-in_err-encoding_version-in-24 : goal.returns-in_err-encoding_version-in-24
+returns-in_err-encoding_version-in-24 c = outer_number_failed c.in_ok-tag.ensures (encoding_version_is _ c.in-24.is) c.in_err-encoding_version-in-24.ensures _ c.from_residual-in_err-encoding_version-in-24.ensures.1
 
-pub returns-in-898 : goal.returns-in-898
-returns-in-898 c =
-    let opened : let o = c.args in TagPost o.s.now o.c.at (Value c.in-Value.tag c.in-Value.next) = rw c.in-Value.is at c.read_tag-r.ensures in
-    field_nested opened c.in-898.is c.nested.ensures
+pub returns-in_ok-encoding_version-in-24 : goal.returns-in_ok-encoding_version-in-24
+returns-in_ok-encoding_version-in-24 c = outer_number c.in_ok-tag.ensures (encoding_version_is _ c.in-24.is) c.in_ok-encoding_version-in-24.ensures refl (λ i. i)
 
-pub returns-in_default-tag : goal.returns-in_default-tag
-returns-in_default-tag c =
-    let opened : let o = c.args in TagPost o.s.now o.c.at (Value c.in-Value.tag c.in-Value.next) = rw c.in-Value.is at c.read_tag-r.ensures in
-    field_other opened c.in_default-tag.in_default-tag-own.rest.0.1 c.in_default-tag.in_default-tag-own.rest.1 c.other.ensures
+pub returns-in_err-value_type-in-32 : goal.returns-in_err-value_type-in-32
+returns-in_err-value_type-in-32 c = outer_number_failed c.in_ok-tag.ensures (value_type_is _ c.in-32.is) c.in_err-value_type-in-32.ensures _ c.from_residual-in_err-value_type-in-32.ensures.1
+
+pub returns-in_ok-value_type-in-32 : goal.returns-in_ok-value_type-in-32
+returns-in_ok-value_type-in-32 c = outer_number c.in_ok-tag.ensures (value_type_is _ c.in-32.is) c.in_ok-value_type-in-32.ensures refl (λ i. i)
+
+pub returns-in_err-num_values-in-16 : goal.returns-in_err-num_values-in-16
+returns-in_err-num_values-in-16 c = outer_count_failed c.in_ok-tag.ensures c.in-16.is c.in_err-num_values-in-16.ensures _ c.from_residual-in_err-num_values-in-16.ensures.1
+
+pub returns-in_ok-num_values-in-16 : goal.returns-in_ok-num_values-in-16
+returns-in_ok-num_values-in-16 c = outer_count c.in_ok-tag.ensures c.in-16.is c.in_ok-num_values-in-16.ensures
+
+pub returns-in_err-part-in-898 : goal.returns-in_err-part-in-898
+returns-in_err-part-in-898 c = nested_cut c.in_ok-tag.ensures c.in-898.is c.in_err-part-in-898.ensures _ c.from_residual-in_err-part-in-898.ensures.1
+
+pub returns-in_err-hll-in-898 : goal.returns-in_err-hll-in-898
+returns-in_err-hll-in-898 c = nested_failed c.in_ok-tag.ensures c.in-898.is c.in_ok-part-in-898.ensures c.in_err-hll-in-898.ensures _ c.from_residual-in_err-hll-in-898.ensures.1
+
+pub returns-in_ok-hll-in-898 : goal.returns-in_ok-hll-in-898
+returns-in_ok-hll-in-898 c = nested_read c.in_ok-tag.ensures c.in-898.is c.in_ok-part-in-898.ensures c.in_ok-hll-in-898.ensures
+
+pub returns-in_err-skip-in_default : goal.returns-in_err-skip-in_default
+returns-in_err-skip-in_default c =
+    let r = c.in_default.in_default-own.rest in
+    outer_other_failed c.in_ok-tag.ensures r.0.0.0.0.1 r.0.0.0.1 r.0.0.1 r.0.1 r.1 c.in_err-skip-in_default.ensures _ c.from_residual-in_err-skip-in_default.ensures.1
+
+pub returns-in_ok-skip-in_default : goal.returns-in_ok-skip-in_default
+returns-in_ok-skip-in_default c =
+    let r = c.in_default.in_default-own.rest in
+    outer_other c.in_ok-tag.ensures r.0.0.0.0.1 r.0.0.0.1 r.0.0.1 r.0.1 r.1 c.in_ok-skip-in_default.ensures

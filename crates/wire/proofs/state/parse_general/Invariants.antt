@@ -5,8 +5,8 @@ use lib.ListN.{length}
 use Rattle.wire.proofs.StateLaws.{StateGoing}
 use Rattle.wire.proofs.state.parse_general.Given as goal
 
-abbrev pub invariant-loop-at : goal.invariant-loop-at
-invariant-loop-at l = StateGoing l.s l.at l.f
+abbrev pub invariant-loop-c : goal.invariant-loop-c
+invariant-loop-c l = StateGoing l.s l.c.at l.f
 
-abbrev pub decreases-loop-at : goal.decreases-loop-at
-decreases-loop-at l = length l.s - l.at
+abbrev pub decreases-loop-c : goal.decreases-loop-c
+decreases-loop-c l = length l.s - l.c.at

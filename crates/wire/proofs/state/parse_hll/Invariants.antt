@@ -5,8 +5,8 @@ use lib.ListN.{length}
 use Rattle.wire.proofs.StateLaws.{HllGoing}
 use Rattle.wire.proofs.state.parse_hll.Given as goal
 
-abbrev pub invariant-loop-at : goal.invariant-loop-at
-invariant-loop-at l = HllGoing l.m l.base l.at l.initial.h l.h × (l.base + length l.m < 2 ^ 64)
+abbrev pub invariant-loop-c : goal.invariant-loop-c
+invariant-loop-c l = HllGoing l.m l.base l.c.at l.fn.earlier l.h × (l.base + length l.m < 2 ^ 64)
 
-abbrev pub decreases-loop-at : goal.decreases-loop-at
-decreases-loop-at l = length l.m - l.at
+abbrev pub decreases-loop-c : goal.decreases-loop-c
+decreases-loop-c l = length l.m - l.c.at
