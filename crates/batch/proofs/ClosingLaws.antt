@@ -6,6 +6,7 @@ use mathlib.Core.Bool.{Bool, true, false, cond, true≢false}
 use native.Mathlib.Omega.{arith}
 use lib.ListN.{length, take, drop, length-take, length-append}
 use borrow.Author.Tests.{le-leb, lt-leb}
+use Rattle.std.specs.Prelude.{Option, Some, None}
 use Rattle.lists.specs.Values.{Pair}
 use Rattle.lists.specs.Lists.{all_valid}
 use Rattle.lists.specs.Registers.{register_bytes, registers_of, with_registers, zeros, raised_by, not_zero_count}
@@ -22,13 +23,11 @@ use Rattle.rollup.proofs.FitLaws.{fit_sparse}
 use Rattle.rollup.proofs.ViewLaws.{fresh_fits}
 use Rattle.rollup.proofs.SpaceLaws.{steps_spacious}
 use Rattle.rollup.proofs.AgreementLaws.{list_row, registers_list, registers_dense}
-use Rattle.batch.specs.declared.closing.Count.{Count}
-use Rattle.batch.specs.declared.closing.Count.TheVariants.{Registers, Short}
 use Rattle.batch.specs.declared.closing.Report.{Report}
 use Rattle.batch.specs.Chain.{states_of}
 use Rattle.batch.specs.Batch.{states_for}
 use Rattle.batch.specs.Closing.{count_for, ListCountPre, ReportPost, NeverShort}
-use Rattle.batch.proofs.ChainLaws.{added_unmoved}
+use Rattle.batch.proofs.RollLaws.{added_unmoved}
 
 -- A list's values, set in lent bytes and counted.
 module _ (p s : ℕ) (pair : Pair p s) (l bytes : List ℕ) (ok : all_valid p s l ≡ true) (room : register_bytes p ≤ length bytes) where
@@ -50,34 +49,34 @@ list_pre a m spare fit form room =
 
 -- The count, by the form.
 module _ (a : Accumulator) (m : Mem) (space : ℕ) where
-  at_form : (f : Form) (r : Count) → a.form ≡ f → r ≡ count_for f a m space → r ≡ count_for a.form a m space
+  at_form : (f : Form) (r : Option ℕ) → a.form ≡ f → r ≡ count_for f a m space → r ≡ count_for a.form a m space
   at_form f r e h = h ∙ ap (λ (g : Form). count_for g a m space) (sym e)
 
-  pub count_none : a.form ≡ Unstarted → Registers 0 ≡ count_for a.form a m space
+  pub count_none : a.form ≡ Unstarted → Some 0 ≡ count_for a.form a m space
   unfolding count_for
-  count_none e = at_form Unstarted (Registers 0) e refl
+  count_none e = at_form Unstarted (Some 0) e refl
 
-  pub count_dense : (n : ℕ) → a.form ≡ Dense → n ≡ not_zero_count (registers_of a.precision m.registers) → Registers n ≡ count_for a.form a m space
+  pub count_dense : (n : ℕ) → a.form ≡ Dense → n ≡ not_zero_count (registers_of a.precision m.registers) → Some n ≡ count_for a.form a m space
   unfolding count_for
-  count_dense n e h = at_form Dense (Registers n) e (ap Registers (h ∙ ap not_zero_count (sym (registers_dense a m))))
+  count_dense n e h = at_form Dense (Some n) e (ap Some (h ∙ ap not_zero_count (sym (registers_dense a m))))
 
-  pub count_short : (n : ℕ) → a.form ≡ Sparse → n ≡ register_bytes a.precision → space < n → Short ≡ count_for a.form a m space
+  pub count_short : (n : ℕ) → a.form ≡ Sparse → n ≡ register_bytes a.precision → space < n → None ≡ count_for a.form a m space
   unfolding count_for
   count_short n e f h =
-      at_form Sparse Short e
+      at_form Sparse None e
       (sym
-      (ap (λ (t : Bool). cond t (Registers (not_zero_count (rollup_registers Sparse a m))) Short)
+      (ap (λ (t : Bool). cond t (Some (not_zero_count (rollup_registers Sparse a m))) None)
       (lt-leb (register_bytes a.precision) space (subst (λ (k : ℕ). space < k) f h))))
 
   pub count_list : (n k : ℕ) → a.form ≡ Sparse → n ≡ register_bytes a.precision → n ≤ space
       → k ≡ not_zero_count (list_registers a.precision a.sparse_precision (take a.sparse_len m.sparse ++ take a.pending_len m.pending))
-      → Registers k ≡ count_for a.form a m space
+      → Some k ≡ count_for a.form a m space
   unfolding count_for
   count_list n k e f h g =
-      at_form Sparse (Registers k) e
-      (ap Registers (g ∙ ap not_zero_count (sym (registers_list a m)))
+      at_form Sparse (Some k) e
+      (ap Some (g ∙ ap not_zero_count (sym (registers_list a m)))
       ∙ sym
-      (ap (λ (t : Bool). cond t (Registers (not_zero_count (rollup_registers Sparse a m))) Short)
+      (ap (λ (t : Bool). cond t (Some (not_zero_count (rollup_registers Sparse a m))) None)
       (le-leb (register_bytes a.precision) space (subst (λ (x : ℕ). x ≤ space) f h))))
 
 -- What a report says of the memory that was lent: no more records than cells, and no more bytes written than the output has.
@@ -94,16 +93,16 @@ written_inside {room = room} {out = out} {r = r} p =
 -- ---- a list's registers always have room
 
 -- Whether a count was made.
-abbrev made : Count → Bool
-made (Registers n) = true
-made Short = false
+abbrev made : Option ℕ → Bool
+made (Some n) = true
+made None = false
 
 -- It was, where the registers of a list have room.
 count_made : (f : Form) (a : Accumulator) (m : Mem) (space : ℕ) → (f ≡ Sparse → register_bytes a.precision ≤ space) → made (count_for f a m space) ≡ true
 unfolding count_for
 count_made Unstarted a m space h = refl
 count_made Sparse a m space h =
-    ap (λ (t : Bool). made (cond t (Registers (not_zero_count (rollup_registers Sparse a m))) Short)) (le-leb (register_bytes a.precision) space (h refl))
+    ap (λ (t : Bool). made (cond t (Some (not_zero_count (rollup_registers Sparse a m))) None)) (le-leb (register_bytes a.precision) space (h refl))
 count_made Dense a m space h = refl
 
 no_calls : Unmoved []

@@ -8,7 +8,9 @@ use mathlib.Core.Logic.{◌⊎◌, inl, inr, ⊎_elim}
 use native.Mathlib.Omega.{arith}
 use lib.Dec.{eqb}
 use lib.ListN.{length, get_or, length-take, length-map}
+use Rattle.std.specs.Prelude.{Ok, Err}
 use Rattle.wire.proofs.VarintLaws.{side}
+use Rattle.batch.specs.declared.chain.ChainError.TheVariants.{Broken}
 use Rattle.rollup.specs.Accumulator.{Mem}
 use Rattle.batch.specs.declared.closing.Report.{Report}
 use Rattle.batch.specs.Chain.{word_at, next_at, state_at, is_record, Chain, ends, onto, chain_from, is_batch, chain_of, states_of}
@@ -51,8 +53,8 @@ module _ (b : List ℕ) (byte : (k : ℕ) → get_or b k 0 < 256) (short : lengt
       rest = onto i (chain_from n b i (next_at b i))
 
       go : (x y : Bool) → is_record b before i ≡ y
-          → (length (cond x (ends 0) (cond y rest (ends 25))).indices ≡ 0)
-          ⊎ (Inside b before i × (length (cond x (ends 0) (cond y rest (ends 25))).indices ≡ suc (count n i (next_at b i))))
+          → (length (cond x (ends (Ok tt)) (cond y rest (ends (Err Broken)))).indices ≡ 0)
+          ⊎ (Inside b before i × (length (cond x (ends (Ok tt)) (cond y rest (ends (Err Broken)))).indices ≡ suc (count n i (next_at b i))))
       go true y e = inl refl
       go false false e = inl refl
       go false true e = inr (record_inside b before i e, refl)

@@ -1,5 +1,6 @@
 -- The laws of batches, each file after those that it needs.
 pub mod ChainLaws
+pub mod RollLaws
 pub mod ClosingLaws
 pub mod CountLaws
 pub mod PackingLaws

@@ -1,5 +1,5 @@
 -- A batch made of states: what appending a record leaves is the batch of one more state, and walking a batch so made finds its states in order.
-use Prim.Native.Nat.{ℕ, suc, ◌+◌, ◌-◌, ◌*◌, ◌/◌, ◌%◌, ◌^◌, ◌<◌, ◌≤◌}
+use Prim.Native.Nat.{ℕ, zero, suc, ◌+◌, ◌-◌, ◌*◌, ◌/◌, ◌%◌, ◌^◌, ◌<◌, ◌≤◌}
 use mathlib.Core.Path.{◌≡◌, refl, sym, ap, ap₂, ◌∙◌, subst}
 use mathlib.Core.List.{List, [], ◌∷◌, ◌++◌, append_assoc, append-nil, map}
 use mathlib.Core.Bool.{Bool, true, ◌&&◌}
@@ -8,6 +8,8 @@ use lib.Dec.{ltb, leb}
 use lib.ListN.{length, get_or, take, drop, set, length-append, length-drop, take-append-drop}
 use lib.Seq.{sets, sets-eq, length-sets, take_at, drop_at, get_or-drop, drop-drop}
 use borrow.Author.Tests.{le-leb, lt-ltb}
+use Rattle.std.proofs.lemmas.Nat.{from_le_bytes-to_le_bytes_4}
+use Rattle.std.specs.Prelude.{Ok}
 use Rattle.wire.specs.Varints.{PutPost}
 use Rattle.wire.proofs.EncodingLaws.{Three, three}
 use Rattle.batch.specs.Chain.{word_at, next_at, length_at, state_at, is_record, Chain, onto, chain_from, is_batch, chain_of}
@@ -20,34 +22,9 @@ pub word_length : (v : ℕ) → length (word_bytes v) ≡ 4
 unfolding word_bytes
 word_length v = refl
 
--- Four stores.
-pub word_put : (out : List ℕ) (at v a b c d : ℕ) → a ≡ v % 256 → b ≡ v / 256 % 256 → c ≡ v / 65536 % 256 → d ≡ v / 16777216 % 256
-    → PutPost out at (word_bytes v) (at + 4) (set (set (set (set out at a) (at + 1) b) (at + 2) c) (at + 3) d)
-unfolding word_bytes
-word_put out at v a b c d ea eb ec ed =
-    record {
-      next = refl;
-      output =
-          let f : at + 1 ≡ suc at = omega arith in
-          let g : at + 2 ≡ suc (suc at) = omega arith in
-          let h : at + 3 ≡ suc (suc (suc at)) = omega arith in
-          rw (ea, eb, ec, ed, f, g, h);
-    }
-
 word_front : (v : ℕ) (l : List ℕ) → v < 2 ^ 32 → word_at (word_bytes v ++ l) 0 ≡ v
 unfolding word_at word_bytes
-word_front v l h =
-    let e : v / 65536 ≡ v / 256 / 256 = omega arith in
-    let f : v / 16777216 ≡ v / 65536 / 256 = omega arith in
-    let g : v / 16777216 < 256 = omega arith in
-    let x : v % 256 + 256 * (v / 256) ≡ v = omega arith in
-    let y : v / 256 % 256 + 256 * (v / 256 / 256) ≡ v / 256 = omega arith in
-    let z : v / 65536 % 256 + 256 * (v / 65536 / 256) ≡ v / 65536 = omega arith in
-    let w : v / 16777216 % 256 ≡ v / 16777216 = omega arith in
-    sum (v % 256) (v / 256 % 256) (v / 65536 % 256) (v / 16777216 % 256) (v / 256) (v / 65536) v x (ap (λ (k : ℕ). v / 256 % 256 + 256 * k) e ∙ y) (ap (λ (k : ℕ). v / 65536 % 256 + 256 * k) (w ∙ f) ∙ z)
-  where
-    sum : (a b c d x y v : ℕ) → a + 256 * x ≡ v → b + 256 * y ≡ x → c + 256 * d ≡ y → a + 256 * b + 65536 * c + 16777216 * d ≡ v
-    sum a b c d x y v e f g = omega arith
+word_front v l h = omega (arith, from_le_bytes-to_le_bytes_4 v h)
 
 word_drop : (b : List ℕ) (i : ℕ) → word_at b i ≡ word_at (drop i b) 0
 unfolding word_at
@@ -114,17 +91,18 @@ record_yes b before i low above inside =
     ∙ ap (λ (t : Bool). t && leb (i + 8 + length_at b i) (length b)) (lt-ltb before i above)
     ∙ le-leb (i + 8 + length_at b i) (length b) inside
 
--- A chain of the batch b that has these states, and ends with 0.
+-- A chain of the batch b that has these states, and ends with an index of zero.
 pub record Finds (b : List ℕ) (c : Chain) (states : List (List ℕ)) : Type 0 where
   pub found : map (state_at b) c.indices ≡ states
-  pub ending : c.ending ≡ 0
+  pub ending : c.ending ≡ Ok tt
 
 -- From a record on, the chain has the states whose records stand there.
 walks : (states : List (List ℕ)) (b : List ℕ) (n before e : ℕ) → length b ≤ 65536 → 4 ≤ e → before < e → e ≤ length b → length b ≤ before + n
     → drop e b ≡ records_at e states → Finds b (chain_from n b before (index_of e states)) states
 unfolding records_at
 walks [] b n before e short low above inside bound at-e = subst (λ (c : Chain). Finds b c []) (sym (chain_end n b before 0 refl)) (record { found = refl; ending = refl })
-walks (s ∷ states) b n before e short low above inside bound at-e =
+walks (s ∷ states) b zero before e short low above inside bound at-e = absurd (let z : ⊥ = omega arith in z)
+walks (s ∷ states) b (suc n) before e short low above inside bound at-e =
     let past = e + 8 + length s in
     let next = index_of past states in
     let rest = records_at past states in
@@ -135,16 +113,13 @@ walks (s ∷ states) b n before e short low above inside bound at-e =
     let next_small : next < 2 ^ 32 = omega (arith, index_low past states) in
     let long : length_at b e ≡ length s = length_is b e next s rest at-e small in
     let ok : is_record b before e ≡ true = record_yes b before e low above (subst (λ (k : ℕ). e + 8 + k ≤ length b) (sym long) in_b) in
-    let first : before < length b = omega arith in
     let index : (e ≡ 0 → ⊥) = λ (z : e ≡ 0). let y : ⊥ = omega arith in y in
-    let step = chain_next b before e first index n bound ok in
-    let less : n ≡ suc step.fewer = step.less in
-    let others = walks states b step.fewer e past short (omega arith) (omega arith) in_b (omega arith) (rest_there b e next s rest at-e) in
+    let others = walks states b n e past short (omega arith) (omega arith) in_b (omega arith) (rest_there b e next s rest at-e) in
     subst (λ (c : Chain). Finds b c (s ∷ states))
-    (sym (step.same ∙ ap (λ (k : ℕ). onto e (chain_from step.fewer b e k)) (next_is b e next s rest at-e next_small)))
+    (sym (chain_next n b before e index ok ∙ ap (λ (k : ℕ). onto e (chain_from n b e k)) (next_is b e next s rest at-e next_small)))
     (record { found = ap₂ (λ (x : List ℕ) (l : List (List ℕ)). x ∷ l) (state_is b e next s rest at-e small) others.found; ending = others.ending })
 
--- Packing and walking agree: the chain of a batch made of states has these states, in order, and ends with 0.
+-- Packing and walking agree: the chain of a batch made of states has these states, in order, and ends with an index of zero.
 pub packed_chain : (states : List (List ℕ)) → length (packed states) ≤ 65536 → Finds (packed states) (chain_of (packed states)) states
 unfolding packed
 packed_chain states short =

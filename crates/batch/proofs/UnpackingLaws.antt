@@ -1,5 +1,5 @@
--- Walking a batch: the indices so far, and what is left of the chain, are the chain's. One law for the start, one for a turn, and one for
--- each way that the walk ends.
+-- Walking a batch: the indices so far, and what is left of the chain, are the chain's. One law for a turn, and one for each way that the walk ends; and the state
+-- of a record.
 use Prim.Native.Nat.{ℕ, suc, ◌+◌, ◌-◌, ◌<◌, ◌≤◌}
 use mathlib.Core.Path.{◌≡◌, refl, sym, ap, ◌∙◌, subst}
 use mathlib.Core.List.{List, [], ◌∷◌, ◌++◌}
@@ -7,64 +7,44 @@ use mathlib.Core.Bool.{true, false}
 use native.Mathlib.Omega.{arith}
 use lib.ListN.{length, take, drop, set, length-set, length-take, length-drop, drop_of_length-le}
 use lib.Seq.{take-suc-set, length-take-le, take-nil, take_all}
+use Rattle.std.specs.Prelude.{⊤, Result}
 use Rattle.lists.proofs.MergingLaws.{rest_all}
-use Rattle.batch.specs.Chain.{word_at, next_at, length_at, state_at, is_record, Chain, ends, chain_from, is_batch}
+use Rattle.batch.specs.declared.chain.ChainError.{ChainError}
+use Rattle.batch.specs.Chain.{length_at, state_at, Chain, ends, onto, chain_of}
 use Rattle.batch.specs.Unpacking.{WalkedPost}
-use Rattle.batch.proofs.ChainLaws.{Walk, walk_start, walk_all, walk_ending, walk_bad, walk_turn, batch_size, chain_is, chain_end, untouched_next}
+use Rattle.batch.proofs.ChainLaws.{Walk, walk_all, walk_ending, walk_few, walk_turn, untouched_next}
 
-pub record Walking (batch old : List ℕ) (before at k : ℕ) (indices : List ℕ) : Type 0 where
-  pub walk : Walk batch before at k (take k indices)
-  pub short : length batch ≤ 65536
-  pub cells : 65536 ≤ length indices
+pub record Walking (batch old : List ℕ) (rest : Chain) (k : ℕ) (indices : List ℕ) : Type 0 where
+  pub walk : Walk batch (take k indices) rest
+  pub inside : k ≤ length indices
   pub untouched : drop k indices ≡ drop k old
 
-pub walking_start : (batch : List ℕ) (at : ℕ) (indices : List ℕ) → is_batch batch ≡ true → at ≡ word_at batch 0 → 65536 ≤ length indices → Walking batch indices 0 at 0 indices
-walking_start batch at indices ok e room = record { walk = walk_start batch at ok e; short = (batch_size batch ok).1; cells = room; untouched = refl }
+module _ {batch old : List ℕ} {rest : Chain} {k : ℕ} {indices : List ℕ} (g : Walking batch old rest k indices) where
+  -- While a record is left, so is a cell.
+  pub room_left : {i : ℕ} {next : Chain} → 65536 ≤ length indices → rest ≡ onto i next → k < length indices
+  room_left room e = omega (arith, walk_few g.walk e, length-take-le k indices g.inside)
 
-module _ (batch old : List ℕ) (before at k : ℕ) (indices : List ℕ) (g : Walking batch old before at k indices) where
-  pub room_left : k < length indices
-  room_left = omega (arith, g.walk.early, g.walk.within, g.short, g.cells)
-
-  finished : (n : ℕ) → chain_from g.walk.left batch before at ≡ ends n → WalkedPost batch old (record { records = k; ending = n }) indices
-  finished n e =
-      let all = walk_all g.walk n e in
-      let inside : k ≤ length indices = omega (arith, room_left) in
+  pub walked : (r : Result ⊤ ChainError) → rest ≡ ends r → WalkedPost batch old (record { records = k; ending = r }) indices
+  walked r e =
+      let all = walk_all g.walk e in
       record {
-        records = sym (ap (λ (l : List ℕ). length l) all ∙ length-take-le k indices inside);
-        ending = sym (walk_ending g.walk n e);
+        records = sym (ap length all ∙ length-take-le k indices g.inside);
+        ending = sym (walk_ending g.walk e);
         front = sym all;
-        inside = inside;
+        inside = g.inside;
         untouched = g.untouched;
       }
 
-  pub walked_whole : at ≡ 0 → WalkedPost batch old (record { records = k; ending = 0 }) indices
-  walked_whole e = finished 0 (chain_end g.walk.left batch before at e)
-
-  module _ (index : at ≡ 0 → ⊥) where
-    pub walked_refused : is_record batch before at ≡ false → WalkedPost batch old (record { records = k; ending = 25 }) indices
-    walked_refused e = finished 25 (walk_bad g.walk index e)
-
-    pub walking_turn : (next : ℕ) → is_record batch before at ≡ true → next ≡ next_at batch at → Walking batch old at next (k + 1) (set indices k at)
-    walking_turn next ok e =
-        let put : take (k + 1) (set indices k at) ≡ take k indices ++ at ∷ [] =
-        ap (λ (j : ℕ). take j (set indices k at)) (let z : k + 1 ≡ suc k = omega arith in z) ∙ take-suc-set indices k at room_left in
-        record {
-          walk = subst (Walk batch at next (k + 1)) (sym put) (walk_turn g.walk index ok next e);
-          short = g.short;
-          cells = omega (arith, g.cells, length-set indices k at);
-          untouched = untouched_next indices old k at g.untouched;
-        }
-
-pub walked_none : (batch indices : List ℕ) → is_batch batch ≡ false → WalkedPost batch indices (record { records = 0; ending = 24 }) indices
-walked_none batch indices e =
-    let whole = chain_is batch e in
-    record {
-      records = sym (ap (λ (c : Chain). length c.indices) whole);
-      ending = sym (ap (λ (c : Chain). c.ending) whole);
-      front = sym (ap (λ (c : Chain). c.indices) whole);
-      inside = omega arith;
-      untouched = refl;
-    }
+  pub walking_turn : {i : ℕ} {next : Chain} → 65536 ≤ length indices → rest ≡ onto i next → Walking batch old next (k + 1) (set indices k i)
+  walking_turn {i} {next} room e =
+      let more = room_left room e in
+      let put : take (k + 1) (set indices k i) ≡ take k indices ++ i ∷ [] =
+      ap (λ (j : ℕ). take j (set indices k i)) (let z : k + 1 ≡ suc k = omega arith in z) ∙ take-suc-set indices k i more in
+      record {
+        walk = subst (λ (l : List ℕ). Walk batch l next) (sym put) (walk_turn g.walk e);
+        inside = omega (arith, length-set indices k i);
+        untouched = untouched_next indices old k i g.untouched;
+      }
 
 -- ---- a state
 

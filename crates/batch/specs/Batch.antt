@@ -1,10 +1,11 @@
 -- What rolling up a batch answers and leaves: a run of demand 3's theorem over its states in order, the answer to each, and the closing numbers.
-use Rattle.std.specs.Prelude.{◌≡◌, List, [], ◌∷◌, cond, ℕ, leb, eqb, length, take, drop}
+use Rattle.std.specs.Prelude.{◌≡◌, ⊤, Result, Ok, Err, List, [], ◌∷◌, cond, ℕ, leb, length, take, drop}
 use Rattle.rollup.specs.Accumulator.{Mem}
 use Rattle.rollup.specs.Taking.{Free}
 use Rattle.rollup.specs.Calls.{Call, added, Run}
+use Rattle.batch.specs.declared.chain.ChainError.{ChainError}
 use Rattle.batch.specs.declared.records.Ending.{Ending}
-use Rattle.batch.specs.declared.records.Ending.TheVariants.{Whole, Refused, Full}
+use Rattle.batch.specs.declared.records.Ending.TheVariants.{Refused, Full}
 use Rattle.batch.specs.declared.records.Rolled.{Rolled}
 use Rattle.batch.specs.Chain.{Chain, chain_of, states_of}
 
@@ -14,9 +15,14 @@ added_all room [] answers calls = calls
 added_all room (s ∷ states) [] calls = calls
 added_all room (s ∷ states) (n ∷ answers) calls = added_all room states answers (added room s n ∷ calls)
 
+-- A question that ends the chain, as the reason why not all was added.
+abbrev pub refusing : Result ⊤ ChainError → Result ⊤ Ending
+refusing (Ok x) = Ok x
+refusing (Err e) = Err (Refused e)
+
 -- How a chain ends for a caller that lends `cells` cells for the answers, one a record: `Full` where it has more records than that.
-abbrev pub ending_for : Chain → ℕ → Ending
-ending_for c cells = cond (leb (length c.indices) cells) (cond (eqb c.ending 0) Whole (Refused c.ending)) Full
+abbrev pub ending_for : Chain → ℕ → Result ⊤ Ending
+ending_for c cells = cond (leb (length c.indices) cells) (refusing c.ending) (Err Full)
 
 -- The states that have a cell, in order.
 abbrev pub states_for : List ℕ → ℕ → List (List ℕ)

@@ -1,5 +1,7 @@
 -- A batch of states: records chained by a next index (document 01, "The batch").
-use Rattle.std.specs.Prelude.{List, [], ◌∷◌, map, Bool, cond, ◌&&◌, ℕ, zero, suc, ◌+◌, ◌*◌, ltb, leb, eqb, length, get_or, take, drop}
+use Rattle.std.specs.Prelude.{⊤, Result, Ok, Err, List, [], ◌∷◌, map, Bool, cond, ◌&&◌, ℕ, zero, suc, ◌+◌, ◌*◌, ltb, leb, eqb, length, get_or, take, drop}
+use Rattle.batch.specs.declared.chain.ChainError.{ChainError}
+use Rattle.batch.specs.declared.chain.ChainError.TheVariants.{NoBatch, Broken}
 
 -- "Indices and lengths are 4 bytes, low first; an index is a byte offset."
 unfoldable pub word_at : List ℕ → ℕ → ℕ
@@ -19,13 +21,18 @@ state_at b i = take (length_at b i) (drop (i + 8) b)
 unfoldable pub is_record : List ℕ → ℕ → ℕ → Bool
 is_record b before i = leb 4 i && ltb before i && leb (i + 8 + length_at b i) (length b)
 
--- The indices of a chain's records in order, and how it ends: with 0, "zero ends the chain", or with the number of a question.
+-- The number of each question.
+abbrev pub error_number : ChainError → ℕ
+error_number NoBatch = 24
+error_number Broken = 25
+
+-- The indices of a chain's records in order, and how it ends: "zero ends the chain", or else a question does.
 pub record Chain : Type 0 where
   pub indices : List ℕ
-  pub ending : ℕ
+  pub ending : Result ⊤ ChainError
 
-abbrev pub ends : ℕ → Chain
-ends n = record { indices = []; ending = n }
+abbrev pub ends : Result ⊤ ChainError → Chain
+ends r = record { indices = []; ending = r }
 
 abbrev pub onto : ℕ → Chain → Chain
 onto i c = record { indices = i ∷ c.indices; ending = c.ending }
@@ -33,9 +40,9 @@ onto i c = record { indices = i ∷ c.indices; ending = c.ending }
 -- The chain from an index on, where `before` is the index of the record before it. The first argument bounds the number of records: each index is
 -- above the one before and inside, so a batch's length suffices.
 unfoldable pub chain_from : ℕ → List ℕ → ℕ → ℕ → Chain
-chain_from zero b before i = ends 0
+chain_from zero b before i = ends (Ok tt)
 chain_from (suc n) b before i =
-    cond (eqb i 0) (ends 0) (cond (is_record b before i) (onto i (chain_from n b i (next_at b i))) (ends 25))
+    cond (eqb i 0) (ends (Ok tt)) (cond (is_record b before i) (onto i (chain_from n b i (next_at b i))) (ends (Err Broken)))
 
 -- "24: at most 65,536 bytes, at least 4?"
 abbrev pub is_batch : List ℕ → Bool
@@ -43,7 +50,7 @@ is_batch b = leb 4 (length b) && leb (length b) 65536
 
 -- "Bytes 0 to 3 hold the first index."
 unfoldable pub chain_of : List ℕ → Chain
-chain_of b = cond (is_batch b) (chain_from (length b) b 0 (word_at b 0)) (ends 24)
+chain_of b = cond (is_batch b) (chain_from (length b) b 0 (word_at b 0)) (ends (Err NoBatch))
 
 -- The states of the records, in the order of the chain.
 abbrev pub states_of : List ℕ → List (List ℕ)

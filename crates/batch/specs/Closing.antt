@@ -1,6 +1,6 @@
 -- What is said of a batch at the end (document 01, "The batch"): "Then p, s, value count, registers not zero (a list's values read as registers); then
 -- the written state, or the writing refusal's number." The first three are numbers of the head.
-use Rattle.std.specs.Prelude.{◌≡◌, List, true, cond, ℕ, ◌≤◌, leb, length, take}
+use Rattle.std.specs.Prelude.{◌≡◌, Option, Some, None, List, true, cond, ℕ, ◌≤◌, leb, length, take}
 use Rattle.lists.specs.Values.{Pair}
 use Rattle.lists.specs.Lists.{all_valid}
 use Rattle.lists.specs.Registers.{register_bytes, not_zero_count}
@@ -11,16 +11,14 @@ use Rattle.rollup.specs.Accumulator.{Mem}
 use Rattle.rollup.specs.Refusals.{answer_of, length_of}
 use Rattle.rollup.specs.Writing.{WritePost}
 use Rattle.rollup.specs.Calls.{rollup_registers}
-use Rattle.batch.specs.declared.closing.Count.{Count}
-use Rattle.batch.specs.declared.closing.Count.TheVariants.{Registers, Short}
 use Rattle.batch.specs.declared.closing.Report.{Report}
 use Rattle.batch.specs.Batch.{RolledPost}
 
 -- "Registers not zero": those of the roll-up, by the definition that demand 3 compares. A list's need a piece of `space` bytes.
-unfoldable pub count_for : Form → Accumulator → Mem → ℕ → Count
-count_for Unstarted a m space = Registers 0
-count_for Sparse a m space = cond (leb (register_bytes a.precision) space) (Registers (not_zero_count (rollup_registers Sparse a m))) Short
-count_for Dense a m space = Registers (not_zero_count (rollup_registers Dense a m))
+unfoldable pub count_for : Form → Accumulator → Mem → ℕ → Option ℕ
+count_for Unstarted a m space = Some 0
+count_for Sparse a m space = cond (leb (register_bytes a.precision) space) (Some (not_zero_count (rollup_registers Sparse a m))) None
+count_for Dense a m space = Some (not_zero_count (rollup_registers Dense a m))
 
 -- A list's values that can be set in lent bytes.
 pub record ListCountPre (a : Accumulator) (sparse pending spare : List ℕ) : Type 0 where
@@ -43,4 +41,4 @@ pub record ReportPost (batch : List ℕ) (first : Mem) (room : ℕ) (old : List 
 unfoldable pub NeverShort : Type 0
 NeverShort =
     (batch : List ℕ) (first : Mem) (room : ℕ) (old : List ℕ) (space : ℕ) (out : List ℕ) (r : Report) (m : Mem) (answers after : List ℕ)
-    → ReportPost batch first room old space out r m answers after → length first.registers ≤ space → r.not_zero ≡ Short → ⊥
+    → ReportPost batch first room old space out r m answers after → length first.registers ≤ space → r.not_zero ≡ None → ⊥

@@ -3,7 +3,7 @@ use Rattle.std.specs.Prelude.{◌≡◌, List, ℕ, ◌≤◌, length, take, dro
 use Rattle.batch.specs.declared.unpacking.Walked.{Walked}
 use Rattle.batch.specs.Chain.{chain_of}
 
--- The index of each record stands in its cell, in the order of the chain, which ends with 0, or with 24 or 25. `old` is what the cells held: those past
+-- The index of each record stands in its cell, in the order of the chain, which ends as the batch's does. `old` is what the cells held: those past
 -- the records are untouched.
 pub record WalkedPost (batch old : List ℕ) (r : Walked) (indices : List ℕ) : Type 0 where
   pub records : r.records ≡ length (chain_of batch).indices

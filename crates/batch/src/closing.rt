@@ -14,18 +14,11 @@ use rollup::memory::Memory;
 use rollup::refusal::Refusal;
 use rollup::sparse_paths;
 
-// How many registers are not zero; or the piece lent for a list's registers is too short for them.
-#[derive(Clone, Copy)]
-pub enum Count {
-    Registers(usize),
-    Short,
-}
-
-// All that is said of a batch: the records, the registers that are not zero, and how many bytes were written.
-#[derive(Clone, Copy)]
+// All that is said of a batch: the records; how many registers are not zero, if the piece lent for a list's registers is long enough; and how many bytes were written.
+#[derive(Clone, Copy, Debug, PartialEq, Eq)]
 pub struct Report {
     pub rolled: Rolled,
-    pub not_zero: Count,
+    pub not_zero: Option<usize>,
     pub written: Result<usize, Refusal>,
 }
 
@@ -44,19 +37,15 @@ fn list_not_zero(a: Accumulator, sparse: &[u32], pending: &[u32], spare: &mut [u
     registers::count_not_zero(&spare[..], enc.normal_precision)
 }
 
-fn not_zero(a: Accumulator, memory: &Memory, spare: &mut [u8]) -> Count
+fn not_zero(a: Accumulator, memory: &Memory, spare: &mut [u8]) -> Option<usize>
     requires { fits a (mem_of memory.now) ≡ true }
     ensures { result ≡ count_for a.form a (mem_of memory.now) (length spare.old) }
 {
     match a.form {
-        Form::Unstarted => Count::Registers(0),
-        Form::Sparse => {
-            if spare.len() < registers::register_bytes(a.precision) {
-                return Count::Short;
-            }
-            Count::Registers(list_not_zero(a, memory.sparse, memory.pending, spare))
-        }
-        Form::Dense => Count::Registers(registers::count_not_zero(memory.registers, a.precision)),
+        Form::Unstarted => Some(0),
+        Form::Sparse if spare.len() < registers::register_bytes(a.precision) => None,
+        Form::Sparse => Some(list_not_zero(a, memory.sparse, memory.pending, spare)),
+        Form::Dense => Some(registers::count_not_zero(memory.registers, a.precision)),
     }
 }
 
@@ -73,15 +62,17 @@ pub fn roll(
     ensures same { SameLent memory.old memory.new }
 {
     let rolled = records::roll_up(batch, memory, answers);
-    let head = rolled.head;
-    let not_zero = not_zero(head, memory, spare);
+    let not_zero = not_zero(rolled.head, memory, spare);
+    // Each slice is lent by itself: the borrow checker does not cover fields that are lent one after the other in a call.
     let (registers, sparse, pending, scratch) = (
         &mut *memory.registers,
         &mut *memory.sparse,
         &mut *memory.pending,
         &mut *memory.scratch,
     );
-    let written = head.write_fitting(registers, sparse, pending, scratch, out);
+    let written = rolled
+        .head
+        .write_fitting(registers, sparse, pending, scratch, out);
     Report {
         rolled,
         not_zero,

@@ -5,22 +5,13 @@ ghost use Rattle.batch.specs.Packing.{word_bytes, record_bytes, RecordPre, Recor
 
 use wire::encoding::put_bytes;
 
-fn low_byte(v: usize) -> u8
-    ensures { result ≡ v % 256 }
-{
-    (v % 256) as u8
-}
-
 // Four bytes, low first. At the front of a buffer, 0 is the batch of no states.
+#[tactic(auto, unfolding(crate::specs::Packing::word_bytes))]
 pub fn put_word(out: &mut [u8], at: usize, v: usize) -> usize
     requires { at + 4 ≤ length out.old }
     ensures { PutPost out.old at (word_bytes v) result out.new }
 {
-    out[at] = low_byte(v);
-    out[at + 1] = low_byte(v / 256);
-    out[at + 2] = low_byte(v / 65536);
-    out[at + 3] = low_byte(v / 16777216);
-    at + 4
+    put_bytes(out, at, &v.to_le_bytes()[..4])
 }
 
 // Next index 0, length, state.

@@ -1,40 +1,28 @@
 // Walking a batch without adding its states: where each record stands, and its state.
-ghost use Rattle.std.specs.Prelude.{◌≡◌, true, ◌≤◌, length};
-ghost use Rattle.batch.specs.Chain.{state_at, is_batch};
+ghost use Rattle.std.specs.Prelude.{◌≡◌, ◌≤◌, length};
+ghost use Rattle.batch.specs.Chain.{state_at};
 ghost use Rattle.batch.specs.Unpacking.{WalkedPost};
 
-use crate::records;
+use crate::chain;
+use crate::chain::{ChainError, Records};
 
-// How many records the chain has, and the number that it ends with: 0, or 24, or 25 where the next record is none.
-#[derive(Clone, Copy)]
+// How many records the chain has, and whether it comes to its end after them.
+#[derive(Clone, Copy, Debug, PartialEq, Eq)]
 pub struct Walked {
     pub records: usize,
-    pub ending: u8,
+    pub ending: Result<(), ChainError>,
 }
 
-fn walk_records(batch: &[u8], indices: &mut [u32]) -> Walked
-    requires { (is_batch batch.now ≡ true) × (65536 ≤ length indices.old) }
-    ensures { WalkedPost batch.now indices.old result indices.new }
+// Puts the indices into their cells, and counts them.
+fn put_indices(batch: &[u8], indices: &mut [u32], records: &mut usize) -> Result<(), ChainError>
+    requires { (records.old ≡ 0) × (65536 ≤ length indices.old) }
+    ensures { WalkedPost batch.now indices.old (record { records = records.new; ending = result }) indices.new }
 {
-    let mut before: usize = 0;
-    let mut at = records::word_at(batch, 0);
-    let mut k: usize = 0;
-    while at != 0 {
-        if !records::is_record(batch, before, at) {
-            return Walked {
-                records: k,
-                ending: 25,
-            };
-        }
-        indices[k] = at as u32;
-        k += 1;
-        before = at;
-        at = records::word_at(batch, at);
+    for record in Records::new(batch)? {
+        indices[*records] = record?.index;
+        *records += 1;
     }
-    Walked {
-        records: k,
-        ending: 0,
-    }
+    Ok(())
 }
 
 // Puts the index of each record into its cell, in the order of the chain. A batch has fewer records than bytes.
@@ -42,30 +30,19 @@ pub fn walk(batch: &[u8], indices: &mut [u32]) -> Walked
     requires { 65536 ≤ length indices.old }
     ensures { WalkedPost batch.now indices.old result indices.new }
 {
-    if !records::is_batch(batch) {
-        return Walked {
-            records: 0,
-            ending: 24,
-        };
-    }
-    walk_records(batch, indices)
+    let mut records = 0;
+    let ending = put_indices(batch, indices, &mut records);
+    Walked { records, ending }
 }
 
 // The state of the record at an index, which is a part of the batch: as far as it lies inside.
 pub fn state_at(batch: &[u8], at: usize) -> &[u8]
     ensures { result.now ≡ state_at batch.now at }
 {
-    if batch.len() < 8 {
+    if batch.len() < 8 || batch.len() - 8 < at {
         return &batch[..0];
     }
-    if batch.len() - 8 < at {
-        return &batch[..0];
-    }
-    let start = at + 8;
-    let size = records::word_at(batch, at + 4);
-    if batch.len() - start < size {
-        return &batch[start..];
-    }
-    let end = start + size;
-    &batch[start..end]
+    let state = &batch[at + 8..];
+    let size = chain::word_at(batch, at + 4) as usize;
+    &state[..size.min(state.len())]
 }
