@@ -4,12 +4,14 @@ use mathlib.Core.Option.{Option, none, some}
 use borrow.Author.Tests.{lt-leb, eqb-false, not-true, not-false}
 use Rattle.wire.proofs.BoolLaws.{both, both_true, said_yes, said_no}
 use Rattle.wire.proofs.BoundLaws.{sparse_data_within, read_number}
-use Rattle.wire.specs.Reading.{Read, got, refused, and_then}
-use Rattle.wire.specs.State.{HllState, State, bytes_or_none, state_of, read_state, when_present, parsed_means, ParsePost}
+use Rattle.std.specs.Prelude.{Ok, Err}
+use Rattle.wire.specs.Reading.{Read, got, refused, and_then, read_error_number}
+use Rattle.wire.specs.State.{HllState, State, bytes_or_none, state_of, read_state, when_present}
 use Rattle.wire.specs.Layout.{CutReading, cut_refused, cut_before_hll}
 use Rattle.wire.specs.declared.state.Fields.{Fields}
-use Rattle.wire.specs.declared.state.Parsed.{Parsed}
-use Rattle.wire.specs.declared.state.Parsed.TheVariants.{Read as StateRead, Refused as StateRefused}
+use Rattle.wire.specs.declared.read_error.ReadError.{ReadError}
+use Rattle.wire.specs.declared.view.StateView.{StateView}
+use Rattle.wire.specs.View.{ViewPost}
 use Rattle.lists.specs.Values.{Pair, NewPost, largest_rank}
 use Rattle.lists.specs.Lists.{decode_of, Decodes}
 use Rattle.lists.specs.Registers.{register_bytes, registers_of, largest, Holds}
@@ -27,7 +29,7 @@ use Rattle.rollup.specs.declared.judging.Judged.TheVariants.{State as JudgedStat
 use Rattle.rollup.specs.Accumulator.{Mem, normal_range, sparse_range}
 use Rattle.rollup.specs.Header.{ask, first_no, data_of, list_of, is_empty, is_value_type, mask_of, state_type, state_version, kind_answer, list_has_precision, data_has_length, needs_pair, pair_in_range, structure_answer, registers_in_range, header_answer, passing, read_header}
 use Rattle.rollup.specs.Adding.{masks_meet, has_field, has_both, same_pair, carried, match_answer, judge, judge_answer, wanted_precision, wanted_registers, wanted_cells, has_room, listed_in}
-use Rattle.rollup.specs.Judging.{judged_means, JudgedInside, HeaderPost, JudgePost, parsed_refusal, RoomPre, ListedPre}
+use Rattle.rollup.specs.Judging.{judged_means, JudgedInside, HeaderPost, JudgePost, RoomPre, ListedPre}
 use Rattle.rollup.proofs.FitLaws.{both_yes, both_no, above_zero, range_of, ranges_pair, fit_sparse, fit_dense, fit_short}
 
 -- ---- Bools
@@ -283,22 +285,18 @@ module _ (s : List ℕ) where
     read_is x e =
         ap₂ (λ (b : Bool) (y : Read State). cond b (and_then y (λ st nothing. passing (header_answer st) st)) (refused 2)) (le-leb (length s) 2147483647 h) e
 
-    pub read_refused : (n k : ℕ) (r : Parsed) → r ≡ StateRefused k → ParsePost s r → n ≡ parsed_refusal r → HeaderPost s (Refused n)
-    read_refused n k r e p f =
-        record {
-          answer = ap refused (f ∙ ap parsed_refusal e) ∙ sym (read_is (refused k) (sym p.answer ∙ ap (parsed_means s) e));
-          inside = tt;
-        }
+    pub read_refused : (n : ℕ) {e : ReadError} → ViewPost s (Err e) → n ≡ read_error_number e → HeaderPost s (Refused n)
+    read_refused n p f = record { answer = ap refused f ∙ sym (read_is _ (sym p.answer)); inside = tt }
 
-    module _ (f : Fields) (p : ParsePost s (StateRead f)) (n : ℕ) (e : n ≡ header_answer (state_of s f)) where
-      read_answered : passing n (state_of s f) ≡ read_header s
-      read_answered = ap (λ (k : ℕ). passing k (state_of s f)) e ∙ sym (read_is (got (state_of s f) []) (sym p.answer))
+    module _ {v : StateView} (p : ViewPost s (Ok v)) (n : ℕ) (e : n ≡ header_answer (state_of s v.fields)) where
+      read_answered : passing n (state_of s v.fields) ≡ read_header s
+      read_answered = ap (λ (k : ℕ). passing k (state_of s v.fields)) e ∙ sym (read_is (got (state_of s v.fields) []) (sym p.answer))
 
       pub read_no : (n ≡ 0 → ⊥) → HeaderPost s (Refused n)
-      read_no z = record { answer = sym (pass_no n (state_of s f) z) ∙ read_answered; inside = tt }
+      read_no z = record { answer = sym (pass_no n (state_of s v.fields) z) ∙ read_answered; inside = tt }
 
-      pub read_yes : n ≡ 0 → HeaderPost s (JudgedState f)
-      read_yes z = record { answer = sym (pass_yes n (state_of s f) z) ∙ read_answered; inside = p.inside }
+      pub read_yes : n ≡ 0 → HeaderPost s (JudgedState v.fields)
+      read_yes z = record { answer = sym (pass_yes n (state_of s v.fields) z) ∙ read_answered; inside = p.inside }
 
 -- What a state that passed them was.
 pub record HeaderRead (bytes : List ℕ) (st : State) : Type 0 where

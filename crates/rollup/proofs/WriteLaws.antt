@@ -9,10 +9,10 @@ use borrow.Rule.Slice.PartMut.{mid_of, post_of, put_mid}
 use borrow.Author.Tests.{lt-leb}
 use Rattle.wire.specs.Varints.{PutPost}
 use Rattle.wire.specs.declared.state.Fields.{Fields}
-use Rattle.wire.specs.declared.encoding.Encoded.{Encoded}
-use Rattle.wire.specs.declared.encoding.Encoded.TheVariants.{Written as Put, Short}
+use Rattle.wire.specs.declared.encoding.EncodeError.{EncodeError}
+use Rattle.std.specs.Prelude.{Result, Ok, Err}
 use Rattle.wire.specs.State.{State, state_of, bytes_or_none}
-use Rattle.wire.specs.Encoding.{head_of, hll_head, encode_of, Output, encode_step, EncodePost}
+use Rattle.wire.specs.Encoding.{head_of, hll_head, encode_of, Output, encode_step, encode_error_number, EncodePost}
 use Rattle.wire.proofs.VarintLaws.{side}
 use Rattle.wire.proofs.EncodingLaws.{head_any, head_tail, head_length, hll_head_le, outer_numbers_le, prefix_le, encode_yes, encode_no}
 use Rattle.lists.specs.declared.values.Sparse.{Sparse as Encoding}
@@ -190,19 +190,20 @@ module _ (a : Accumulator) (registers out : List ℕ) where
       ∙ ap (λ (k : ℕ). state_with a a.sparse_size (some (take k registers)) none) e
       ∙ ap (λ (d : List ℕ). state_with a a.sparse_size (some d) none) (sym (registers_are a.precision registers))
 
-  module _ (f : Fields) (n : ℕ) (e : n ≡ register_bytes a.precision) (g : f ≡ written_fields a a.sparse_size true n 0) (r : Encoded) (after : List ℕ)
+  module _ (f : Fields) (n : ℕ) (e : n ≡ register_bytes a.precision) (g : f ≡ written_fields a a.sparse_size true n 0) (r : Result ℕ EncodeError) (after : List ℕ)
       (p : EncodePost (state_of registers f) out r after) where
     encoded : EncodePost dense_state out r after
     encoded = subst (λ (st : State). EncodePost st out r after) (state_view f n e g) p
 
-    pub dense_23 : r ≡ Short → Writes (encode_step dense_state (length out)) out (record { answer = 23; len = 0 }) after
-    dense_23 k =
-        let q = subst (λ (x : Encoded). EncodePost dense_state out x after) k encoded in
-        record { answer = q.answer; len = q.written; output = q.output }
+    pub dense_23 : {e : EncodeError} (n : ℕ) → n ≡ encode_error_number e → r ≡ Err e
+        → Writes (encode_step dense_state (length out)) out (record { answer = n; len = 0 }) after
+    dense_23 n g k =
+        let q = subst (λ (x : Result ℕ EncodeError). EncodePost dense_state out x after) k encoded in
+        record { answer = g ∙ q.answer; len = q.written; output = q.output }
 
-    pub dense_put : (j : ℕ) → r ≡ Put j → Writes (encode_step dense_state (length out)) out (record { answer = 0; len = j }) after
+    pub dense_put : (j : ℕ) → r ≡ Ok j → Writes (encode_step dense_state (length out)) out (record { answer = 0; len = j }) after
     dense_put j k =
-        let q = subst (λ (x : Encoded). EncodePost dense_state out x after) k encoded in
+        let q = subst (λ (x : Result ℕ EncodeError). EncodePost dense_state out x after) k encoded in
         record { answer = q.answer; len = q.written; output = q.output }
 
 -- ---- what is kept and what waits, as one list

@@ -2,8 +2,6 @@
 use Rattle.std.specs.Prelude.{◌≡◌, ℕ, ◌<◌, ◌≤◌, true, List, [], length}
 use Rattle.wire.specs.Reading.{Read, got, refused}
 use Rattle.wire.specs.State.{State, state_of, HllInside}
-use Rattle.wire.specs.declared.state.Parsed.{Parsed}
-use Rattle.wire.specs.declared.state.Parsed.TheVariants.{Read as StateRead, Refused as StateRefused}
 use Rattle.lists.specs.Values.{Pair}
 use Rattle.rollup.specs.declared.accumulator.Accumulator.{Accumulator}
 use Rattle.rollup.specs.declared.judging.Judged.{Judged}
@@ -37,10 +35,6 @@ JudgePost a s r = Judges (judge a s) s r
 abbrev pub judged_refusal : Judged → ℕ
 judged_refusal (JudgedState f) = 0
 judged_refusal (Refused n) = n
-
-abbrev pub parsed_refusal : Parsed → ℕ
-parsed_refusal (StateRead f) = 0
-parsed_refusal (StateRefused n) = n
 
 -- ---- what the stages after it ask for
 

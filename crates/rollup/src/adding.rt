@@ -13,8 +13,8 @@ use crate::judging::Judged;
 use crate::paths::Path;
 use crate::{fitting, header, judging, paths, taking};
 use lists::decoding::Decoded;
-use wire::state;
 use wire::state::Fields;
+use wire::view::StateView;
 
 // The answer's number, 0 for accepted, and the accumulator after the call.
 #[derive(Clone, Copy)]
@@ -95,12 +95,12 @@ fn accept(
     requires { AcceptPre a distinct (mem registers.old sparse.old pending.old) scratch.old (state_of bytes.now f) k }
     ensures { AcceptPost a (mem registers.old sparse.old pending.old) (state_of bytes.now f) (take k scratch.old) result (mem registers.new sparse.new pending.new) }
 {
-    let list = state::sparse_data(bytes, f);
+    let list = StateView { bytes, fields: f }.sparse_data();
     let x = state_numbers(f, list.len(), k);
     let path = paths::path_of(a, x, &sparse[..a.sparse_len], k, distinct);
     let before = a.form;
     let known = distinct_after(before, path, distinct);
-    let row = state::data(bytes, f);
+    let row = StateView { bytes, fields: f }.data();
     let head = taking::take(a, x, path, registers, sparse, pending, scratch, row, k);
     AddedFitting {
         answer: 0,

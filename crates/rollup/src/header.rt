@@ -8,8 +8,8 @@ ghost use Rattle.rollup.specs.Accumulator.{normal_range, sparse_range};
 ghost use Rattle.rollup.specs.Header.{data_of, list_of, is_empty, is_value_type, mask_of, kind_answer, list_has_precision, data_has_length, needs_pair, structure_answer, registers_in_range, header_answer};
 
 use lists::{registers, values};
-use wire::state;
 use wire::state::Fields;
+use wire::view::StateView;
 
 pub(crate) const HYPERLOGLOG_PLUS_UNIQUE: u32 = 112;
 
@@ -80,7 +80,7 @@ pub(crate) fn check_sparse_precision(p: u32, s: u32) -> bool
 pub fn has_data(bytes: &[u8], f: Fields) -> bool
     ensures { result ≡ not (is_empty (data_of (state_of bytes.now f))) }
 {
-    let d = state::data(bytes, f);
+    let d = StateView { bytes, fields: f }.data();
     d.len() != 0
 }
 
@@ -88,7 +88,7 @@ pub fn has_data(bytes: &[u8], f: Fields) -> bool
 pub fn has_sparse_data(bytes: &[u8], f: Fields) -> bool
     ensures { result ≡ not (is_empty (list_of (state_of bytes.now f))) }
 {
-    let d = state::sparse_data(bytes, f);
+    let d = StateView { bytes, fields: f }.sparse_data();
     d.len() != 0
 }
 
@@ -125,7 +125,7 @@ fn data_has_length(bytes: &[u8], f: Fields) -> bool
     ensures { result ≡ data_has_length (state_of bytes.now f) }
 {
     let h = f.hll;
-    let d = state::data(bytes, f);
+    let d = StateView { bytes, fields: f }.data();
     let n = d.len();
     if n == 0 {
         return true;
@@ -180,7 +180,7 @@ fn registers_in_range(bytes: &[u8], f: Fields) -> bool
     ensures { result ≡ registers_in_range (state_of bytes.now f) }
 {
     let h = f.hll;
-    let d = state::data(bytes, f);
+    let d = StateView { bytes, fields: f }.data();
     if d.len() == 0 {
         return true;
     }

@@ -7,15 +7,15 @@ ghost use Rattle.wire.specs.State.{state_of};
 ghost use Rattle.lists.specs.Lists.{Decodes};
 ghost use Rattle.rollup.specs.Accumulator.{mem};
 ghost use Rattle.rollup.specs.Adding.{masks_meet, has_both, same_pair, carried, match_answer, wanted_precision, wanted_registers, wanted_cells, has_room, listed_in};
-ghost use Rattle.rollup.specs.Judging.{HeaderPost, JudgePost, judged_refusal, parsed_refusal, RoomPre, ListedPre};
+ghost use Rattle.rollup.specs.Judging.{HeaderPost, JudgePost, judged_refusal, RoomPre, ListedPre};
 
 use crate::accumulator::{Accumulator, Form};
 use crate::header;
 use lists::decoding::Decoded;
 use lists::values::Sparse;
 use lists::{decoding, registers};
-use wire::state;
-use wire::state::{Fields, Parsed};
+use wire::state::Fields;
+use wire::view::StateView;
 
 // A state that was accepted up to question 14, or 16, or document 01's number of the refusal.
 #[derive(Clone, Copy)]
@@ -34,15 +34,6 @@ pub fn judged_refusal(r: Judged) -> u8
     }
 }
 
-fn parsed_refusal(r: Parsed) -> u8
-    ensures { result ≡ parsed_refusal r }
-{
-    match r {
-        Parsed::Read(_) => 0,
-        Parsed::Refused(n) => n,
-    }
-}
-
 // 2 to 14: what is asked of the bytes alone.
 pub fn read_header(bytes: &[u8]) -> Judged
     ensures { HeaderPost bytes.now result }
@@ -50,9 +41,9 @@ pub fn read_header(bytes: &[u8]) -> Judged
     if 2147483647 < bytes.len() {
         return Judged::Refused(2);
     }
-    let r = state::parse(bytes);
-    let Parsed::Read(f) = r else {
-        return Judged::Refused(parsed_refusal(r));
+    let f = match StateView::parse(bytes) {
+        Ok(view) => view.fields,
+        Err(e) => return Judged::Refused(e as u8),
     };
     let n = header::validate_header(bytes, f);
     if n != 0 {
@@ -190,7 +181,7 @@ pub(crate) fn has_room(
     if registers.len() < wanted_registers(a, h.precision) {
         return false;
     }
-    let d = state::sparse_data(bytes, f);
+    let d = StateView { bytes, fields: f }.sparse_data();
     let cells = wanted_cells(a, d.len());
     if sparse.len() < cells {
         return false;
@@ -207,7 +198,7 @@ pub(crate) fn decode_listed(bytes: &[u8], f: Fields, scratch: &mut [u32]) -> Dec
     ensures { Decodes (listed_in (state_of bytes.now f)) result scratch.new }
 {
     let h = f.hll;
-    let d = state::sparse_data(bytes, f);
+    let d = StateView { bytes, fields: f }.sparse_data();
     if d.len() == 0 {
         return Decoded::Done(0);
     }

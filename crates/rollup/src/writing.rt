@@ -18,9 +18,9 @@ use lists::merging::Merged;
 use lists::registers::register_bytes;
 use lists::values::Sparse;
 use lists::{indices, merging, sorting};
-use wire::encoding;
-use wire::encoding::Encoded;
-use wire::state::{Fields, HllFields, Part};
+use wire::fields::Part;
+use wire::state::{Fields, HllFields};
+use wire::view::StateView;
 
 // The answer's number, 0 for written, and how many bytes were written.
 #[derive(Clone, Copy)]
@@ -70,11 +70,15 @@ fn write_values(a: Accumulator, size: u32, list: &[u32], bytes: usize, out: &mut
         return Written { answer: 22, len: 0 };
     }
     let f = view(a, size, false, 0, bytes);
-    let total = encoding::head_len(b"", f) + bytes;
+    let view = StateView {
+        bytes: b"",
+        fields: f,
+    };
+    let total = view.head_len() + bytes;
     if out.len() < total {
         return Written { answer: 23, len: 0 };
     }
-    let at = encoding::encode_head(b"", f, out);
+    let at = view.encode_head(out);
     merging::encode_sparse(list, &mut out[at..]);
     Written {
         answer: 0,
@@ -135,11 +139,17 @@ fn write_dense(a: Accumulator, registers: &[u8], out: &mut [u8]) -> Written
     ensures { Writes (encode_step (state_with a a.sparse_size (some (registers_of a.precision registers.now)) none) (length out.old)) out.old result out.new }
 {
     let f = view(a, a.sparse_size, true, register_bytes(a.precision), 0);
-    let r = encoding::encode(registers, f, out);
-    let Encoded::Written(n) = r else {
-        return Written { answer: 23, len: 0 };
+    let view = StateView {
+        bytes: registers,
+        fields: f,
     };
-    Written { answer: 0, len: n }
+    match view.encode(out) {
+        Ok(len) => Written { answer: 0, len },
+        Err(e) => Written {
+            answer: e as u8,
+            len: 0,
+        },
+    }
 }
 
 // ---- all of it
