@@ -12,8 +12,8 @@ ghost use Rattle.rollup.specs.Judging.{HeaderPost, JudgePost, judged_refusal, pa
 use crate::accumulator::{Accumulator, Form};
 use crate::header;
 use lists::decoding::DecodeError;
-use lists::values::Sparse;
 use lists::registers;
+use lists::values::Sparse;
 use wire::state;
 use wire::state::{Fields, Parsed};
 
@@ -202,7 +202,11 @@ pub(crate) fn has_room(
 }
 
 // 18 to 20: the list's values, into `scratch`. A state without list bytes has no values, and its s may be one that no list can have.
-pub(crate) fn decode_listed(bytes: &[u8], f: Fields, scratch: &mut [u32]) -> Result<usize, DecodeError>
+pub(crate) fn decode_listed(
+    bytes: &[u8],
+    f: Fields,
+    scratch: &mut [u32],
+) -> Result<usize, DecodeError>
     requires { ListedPre (state_of bytes.now f) (length scratch.old) }
     ensures { Decodes (listed_in (state_of bytes.now f)) result scratch.new }
 {

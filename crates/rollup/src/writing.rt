@@ -118,13 +118,7 @@ fn write_list(
     let enc = Sparse::new(a.precision, a.sparse_precision);
     let u = flush_pending(enc, kept, pending, a.pending_len, scratch);
     let list = &scratch[..u.len];
-    write_values(
-        a,
-        enc.distinct_indices(list) as u32,
-        list,
-        u.bytes,
-        out,
-    )
+    write_values(a, enc.distinct_indices(list) as u32, list, u.bytes, out)
 }
 
 // ---- a dense roll-up

@@ -22,14 +22,14 @@ slice_bounds-set_lists-end-2 c = sym (length-take-le c.args.a.pending_len c.args
 pub set_lists-requires : goal.set_lists-requires
 set_lists-requires c =
     let n = c.new-enc.ensures in
-    record { fits = n.fits; kept_valid = of_pair n (λ (p s : ℕ). all_valid p s (take c.args.a.sparse_len c.args.sparse.now) ≡ true) c.requires.kept_valid; waiting_valid = of_pair n (λ (p s : ℕ). all_valid p s (take c.args.a.pending_len c.args.pending.now) ≡ true) c.requires.waiting_valid; room = of_pair n (λ (p s : ℕ). register_bytes p ≤ length c.args.spare.now) c.requires.room }
+    record { kept_valid = of_pair n (λ (p s : ℕ). all_valid p s (take c.args.a.sparse_len c.args.sparse.now) ≡ true) c.requires.kept_valid; waiting_valid = of_pair n (λ (p s : ℕ). all_valid p s (take c.args.a.pending_len c.args.pending.now) ≡ true) c.requires.waiting_valid; room = of_pair n (λ (p s : ℕ). register_bytes p ≤ length c.args.spare.now) c.requires.room }
 
 pub count_not_zero-requires : goal.count_not_zero-requires
 count_not_zero-requires c =
     let n = c.new-enc.ensures in
-    record { high = n.fits.pair.high; room = set_room c.new-enc.result.normal_precision c.new-enc.result.sparse_precision c.args.spare.now (of_pair n (λ (p s : ℕ). register_bytes p ≤ length c.args.spare.now) c.requires.room) (take c.args.a.sparse_len c.args.sparse.now ++ take c.args.a.pending_len c.args.pending.now) _ c.set_lists.ensures }
+    record { high = c.new-enc.result.pair.high; room = set_room c.new-enc.result.normal_precision c.new-enc.result.sparse_precision c.args.spare.now (of_pair n (λ (p s : ℕ). register_bytes p ≤ length c.args.spare.now) c.requires.room) (take c.args.a.sparse_len c.args.sparse.now ++ take c.args.a.pending_len c.args.pending.now) _ c.set_lists.ensures }
 
 pub returns : goal.returns
 returns c =
     let n = c.new-enc.ensures in
-    at_pair n (λ (p s : ℕ). c.count_not_zero.result ≡ not_zero_count (list_registers p s (take c.args.a.sparse_len c.args.sparse.now ++ take c.args.a.pending_len c.args.pending.now))) (list_counted c.new-enc.result.normal_precision c.new-enc.result.sparse_precision n.fits.pair (take c.args.a.sparse_len c.args.sparse.now ++ take c.args.a.pending_len c.args.pending.now) c.args.spare.now (of_pair n (λ (p s : ℕ). all_valid p s (take c.args.a.sparse_len c.args.sparse.now ++ take c.args.a.pending_len c.args.pending.now) ≡ true) (valid_append c.args.a.precision c.args.a.sparse_precision (take c.args.a.sparse_len c.args.sparse.now) (take c.args.a.pending_len c.args.pending.now) c.requires.kept_valid c.requires.waiting_valid)) (of_pair n (λ (p s : ℕ). register_bytes p ≤ length c.args.spare.now) c.requires.room) _ _ c.set_lists.ensures c.count_not_zero.ensures)
+    at_pair n (λ (p s : ℕ). c.count_not_zero.result ≡ not_zero_count (list_registers p s (take c.args.a.sparse_len c.args.sparse.now ++ take c.args.a.pending_len c.args.pending.now))) (list_counted c.new-enc.result.normal_precision c.new-enc.result.sparse_precision c.new-enc.result.pair (take c.args.a.sparse_len c.args.sparse.now ++ take c.args.a.pending_len c.args.pending.now) c.args.spare.now (of_pair n (λ (p s : ℕ). all_valid p s (take c.args.a.sparse_len c.args.sparse.now ++ take c.args.a.pending_len c.args.pending.now) ≡ true) (valid_append c.args.a.precision c.args.a.sparse_precision (take c.args.a.sparse_len c.args.sparse.now) (take c.args.a.pending_len c.args.pending.now) c.requires.kept_valid c.requires.waiting_valid)) (of_pair n (λ (p s : ℕ). register_bytes p ≤ length c.args.spare.now) c.requires.room) _ _ c.set_lists.ensures c.count_not_zero.ensures)
