@@ -20,5 +20,5 @@ raise_register-requires-else-is_rho_encoded c =
 pub returns-else-is_rho_encoded : goal.returns-else-is_rho_encoded
 returns-else-is_rho_encoded c =
     set_plain c.args.enc.normal_precision c.args.enc.sparse_precision c.args.d c.args.v (sym c.is_rho_encoded.ensures ∙ c.if-is_rho_encoded.false)
-    c.requires.fits.pair c.requires.ok c.requires.fewer c.compute_rho_w.result c.args.registers.now _ c.requires.room c.compute_rho_w.ensures
+    c.requires.fits.pair c.requires.ok c.requires.fewer c.compute_rho_w-r.result c.args.registers.now _ c.requires.room c.compute_rho_w-r.ensures
     c.raise_register-else-is_rho_encoded.ensures
