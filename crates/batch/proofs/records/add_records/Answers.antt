@@ -1,5 +1,5 @@
 use Prim.Native.Nat.{ℕ, ◌+◌, ◌-◌}
-use mathlib.Core.Path.{◌≡◌, refl, ap, ◌∙◌, subst}
+use mathlib.Core.Path.{◌≡◌, refl, sym, ap, ◌∙◌, subst}
 use native.Mathlib.Omega.{arith}
 use lib.ListN.{length, take, drop, length-set}
 use Rattle.wire.proofs.BoolLaws.{never, said_yes, said_no}
@@ -7,7 +7,7 @@ use Rattle.rollup.specs.Accumulator.{Mem, mem}
 use Rattle.rollup.specs.Adding.{AddPost}
 use Rattle.batch.specs.Chain.{length_at}
 use Rattle.rollup.proofs.ViewLaws.{run_fits}
-use Rattle.lists.proofs.RegisterLaws.{not_yet}
+use lib.Arith.{lt_of_le-ne}
 use Rattle.batch.proofs.ChainLaws.{batch_size, record_inside, going_start, going_turn, stop_whole, stop_refused, stop_full}
 use Rattle.std.proofs.lemmas.Bool.{not_from_false, not_from_true}
 use Rattle.batch.proofs.records.add_records.Goals as goal
@@ -60,7 +60,7 @@ loop-at-smaller c = omega (arith, (record_inside c.args.batch.now c.loop-at.befo
 pub loop-at-preserved : goal.loop-at-preserved
 loop-at-preserved c =
     let m : Mem = mem c.args.registers.now c.args.sparse.now c.args.pending.now in
-    (going_turn c.args.batch.now m (length c.args.scratch.now) c.loop-at.before c.loop-at.at c.loop-at.k c.loop-at.head (mem c.loop-at.registers c.loop-at.sparse c.loop-at.pending) c.args.answers.now c.loop-at.answers c.loop-at.invariant.0 c.loop-at-test.true (said_yes c.is_record.ensures (not_from_true _ c.if-not-is_record.false)) c.word_at-at-in-loop-at.result (take (c.loop-at.at + 8 + c.word_at.result - (c.loop-at.at + 8)) (drop (c.loop-at.at + 8) c.args.batch.now)) (record { answer = c.add_fitting-r.result.answer; head = c.add_fitting-r.result.head }) (mem c.add_fitting-r.new.registers c.add_fitting-r.new.sparse c.add_fitting-r.new.pending) c.word_at-at-in-loop-at.ensures.0 (ap (λ (n : ℕ). take n (drop (c.loop-at.at + 8) c.args.batch.now)) (let e : c.loop-at.at + 8 + c.word_at.result - (c.loop-at.at + 8) ≡ length_at c.args.batch.now c.loop-at.at = omega (arith, c.word_at.ensures.0) in e)) (not_yet c.loop-at.k (length c.loop-at.answers) (length c.args.answers.now) c.loop-at.invariant.5 c.loop-at.invariant.0.few c.if-k-answers.false) (subst (λ (n : ℕ). AddPost c.loop-at.head (mem c.loop-at.registers c.loop-at.sparse c.loop-at.pending) n (take (c.loop-at.at + 8 + c.word_at.result - (c.loop-at.at + 8)) (drop (c.loop-at.at + 8) c.args.batch.now)) (record { answer = c.add_fitting-r.result.answer; head = c.add_fitting-r.result.head }) (mem c.add_fitting-r.new.registers c.add_fitting-r.new.sparse c.add_fitting-r.new.pending)) c.loop-at.invariant.4 c.add_fitting-r.ensures.added), c.add_fitting-r.auto.registers ∙ c.loop-at.invariant.1, c.add_fitting-r.auto.sparse ∙ c.loop-at.invariant.2, c.add_fitting-r.auto.pending ∙ c.loop-at.invariant.3, c.add_fitting-r.auto.scratch ∙ c.loop-at.invariant.4, length-set c.loop-at.answers c.loop-at.k c.add_fitting-r.result.answer ∙ c.loop-at.invariant.5, c.add_fitting-r.ensures.sound.known)
+    (going_turn c.args.batch.now m (length c.args.scratch.now) c.loop-at.before c.loop-at.at c.loop-at.k c.loop-at.head (mem c.loop-at.registers c.loop-at.sparse c.loop-at.pending) c.args.answers.now c.loop-at.answers c.loop-at.invariant.0 c.loop-at-test.true (said_yes c.is_record.ensures (not_from_true _ c.if-not-is_record.false)) c.word_at-at-in-loop-at.result (take (c.loop-at.at + 8 + c.word_at.result - (c.loop-at.at + 8)) (drop (c.loop-at.at + 8) c.args.batch.now)) (record { answer = c.add_fitting-r.result.answer; head = c.add_fitting-r.result.head }) (mem c.add_fitting-r.new.registers c.add_fitting-r.new.sparse c.add_fitting-r.new.pending) c.word_at-at-in-loop-at.ensures.0 (ap (λ (n : ℕ). take n (drop (c.loop-at.at + 8) c.args.batch.now)) (let e : c.loop-at.at + 8 + c.word_at.result - (c.loop-at.at + 8) ≡ length_at c.args.batch.now c.loop-at.at = omega (arith, c.word_at.ensures.0) in e)) (lt_of_le-ne c.loop-at.invariant.0.few (λ (g : c.loop-at.k ≡ length c.args.answers.now). c.if-k-answers.false (g ∙ sym c.loop-at.invariant.5))) (subst (λ (n : ℕ). AddPost c.loop-at.head (mem c.loop-at.registers c.loop-at.sparse c.loop-at.pending) n (take (c.loop-at.at + 8 + c.word_at.result - (c.loop-at.at + 8)) (drop (c.loop-at.at + 8) c.args.batch.now)) (record { answer = c.add_fitting-r.result.answer; head = c.add_fitting-r.result.head }) (mem c.add_fitting-r.new.registers c.add_fitting-r.new.sparse c.add_fitting-r.new.pending)) c.loop-at.invariant.4 c.add_fitting-r.ensures.added), c.add_fitting-r.auto.registers ∙ c.loop-at.invariant.1, c.add_fitting-r.auto.sparse ∙ c.loop-at.invariant.2, c.add_fitting-r.auto.pending ∙ c.loop-at.invariant.3, c.add_fitting-r.auto.scratch ∙ c.loop-at.invariant.4, length-set c.loop-at.answers c.loop-at.k c.add_fitting-r.result.answer ∙ c.loop-at.invariant.5, c.add_fitting-r.ensures.sound.known)
 
 pub returns : goal.returns
 returns c =
