@@ -48,16 +48,6 @@ module _ {batch old : List ℕ} {rest : Chain} {k : ℕ} {indices : List ℕ} (g
 
 -- ---- a state
 
-pub state_none : (b : List ℕ) (at : ℕ) → length b ≤ at + 8 → take 0 b ≡ state_at b at
-state_none b at h = sym (ap (take (length_at b at)) (drop_of_length-le b h) ∙ take-nil (length_at b at))
-
-pub state_cut : (b : List ℕ) (at n : ℕ) → length b - (at + 8) < n → n ≡ length_at b at → take (length b - (at + 8)) (drop (at + 8) b) ≡ state_at b at
-state_cut b at n h e =
-    rest_all b (at + 8) ∙ sym (take_all (length_at b at) (drop (at + 8) b) (omega (arith, length-drop (at + 8) b)))
-
-pub state_whole : (b : List ℕ) (at n : ℕ) → n ≡ length_at b at → take (at + 8 + n - (at + 8)) (drop (at + 8) b) ≡ state_at b at
-state_whole b at n e = ap (λ (k : ℕ). take k (drop (at + 8) b)) ((let z : at + 8 + n - (at + 8) ≡ n = omega arith in z) ∙ e)
-
 pub state_short : (b s : List ℕ) (at : ℕ) → s ≡ state_at b at → length s ≤ length b
 state_short b s at e =
     omega (arith, ap (λ (l : List ℕ). length l) e, length-take (length_at b at) (drop (at + 8) b), length-drop (at + 8) b)
