@@ -7,8 +7,6 @@ use native.Mathlib.Omega.{arith}
 use lib.ListN.{length, set}
 use borrow.Author.Tests.{le-leb, lt-leb}
 use Rattle.rollup.specs.declared.accumulator.Accumulator.{Accumulator}
-use Rattle.rollup.specs.declared.adding.Added.{Added}
-use Rattle.rollup.specs.declared.writing.Written.{Written}
 use Rattle.rollup.specs.Accumulator.{Mem, fresh}
 use Rattle.rollup.specs.Adding.{AddPost}
 use Rattle.rollup.specs.Writing.{WritePost}
@@ -77,15 +75,15 @@ add_missing row m room bytes e =
       known = λ (f : is_head row ≡ true). absurd (true≢false (sym f ∙ e));
     }
 
-pub add_found : (row : List ℕ) (m : Mem) (room : ℕ) (bytes : List ℕ) (a : Accumulator) (r : Added) (after : List ℕ) (n : Mem) → Found row a
-    → AddPost a m room bytes r n → after ≡ with_head r.head row → AddRowPost row m room bytes r.answer after n
-add_found row m room bytes a r after n x post e =
+pub add_found : (row : List ℕ) (m : Mem) (room : ℕ) (bytes : List ℕ) (a : Accumulator) (answer : ℕ) (h : Accumulator) (after : List ℕ) (n : Mem) → Found row a
+    → AddPost a m room bytes answer h n → after ≡ with_head h row → AddRowPost row m room bytes answer after n
+add_found row m room bytes a answer h after n x post e =
     record {
       unknown = λ (f : is_head row ≡ false). absurd (true≢false (sym x.yes_head ∙ f));
       known = λ (f : is_head row ≡ true).
           record {
-            head = r.head;
-            post = subst (λ (h : Accumulator). AddPost h m room bytes (record { answer = r.answer; head = r.head }) n) x.is_head post;
+            head = h;
+            post = subst (λ (b : Accumulator). AddPost b m room bytes answer h n) x.is_head post;
             row_left = e;
           };
     }
@@ -104,15 +102,15 @@ write_missing row m room out len len-left e f =
       known = λ (g : is_head row ≡ true). absurd (true≢false (sym g ∙ e));
     }
 
-pub write_found : (row : List ℕ) (m : Mem) (room : ℕ) (out len : List ℕ) (a : Accumulator) (r : Written) (n : Mem) (after len-left : List ℕ) → Found row a
-    → WritePost a m room out r n after → len-left ≡ set len 0 r.len → WriteRowPost row m room out len r.answer n after len-left
-write_found row m room out len a r n after len-left x post e =
+pub write_found : (row : List ℕ) (m : Mem) (room : ℕ) (out len : List ℕ) (a : Accumulator) (answer bytes : ℕ) (n : Mem) (after len-left : List ℕ) → Found row a
+    → WritePost a m room out answer bytes n after → len-left ≡ set len 0 bytes → WriteRowPost row m room out len answer n after len-left
+write_found row m room out len a answer bytes n after len-left x post e =
     record {
       unknown = λ (f : is_head row ≡ false). absurd (true≢false (sym x.yes_head ∙ f));
       known = λ (f : is_head row ≡ true).
           record {
-            bytes = r.len;
-            post = subst (λ (h : Accumulator). WritePost h m room out (record { answer = r.answer; len = r.len }) n after) x.is_head post;
+            bytes = bytes;
+            post = subst (λ (h : Accumulator). WritePost h m room out answer bytes n after) x.is_head post;
             cell = e;
           };
     }

@@ -10,7 +10,6 @@ use lib.Seq.{take_all, take-suc-set, drop-cons, drop-set-lt, drop-drop, length-t
 use borrow.Author.Tests.{le-leb, lt-leb, leb-true}
 use Rattle.wire.proofs.BoolLaws.{both, both_true}
 use Rattle.rollup.specs.declared.accumulator.Accumulator.{Accumulator}
-use Rattle.rollup.specs.declared.adding.Added.{Added}
 use Rattle.rollup.specs.Accumulator.{Mem, fits}
 use Rattle.rollup.specs.Adding.{AddPost}
 use Rattle.rollup.specs.Taking.{Free}
@@ -138,19 +137,19 @@ module _ (a : Accumulator) (m : Mem) (room : ℕ) (bytes ends before : List ℕ)
     pub state_to : end ≤ length bytes
     state_to = ends_inside (length bytes) end (drop (i + 1) ends) next.1
 
-    pub fold_turn : (r : Added) (l : Mem) → AddPost h n room (between bytes start end) r l
-        → Folding a m room bytes ends before end (i + 1) r.head l (set answers i r.answer)
-    fold_turn r l post =
+    pub fold_turn : (answer : ℕ) (to : Accumulator) (l : Mem) → AddPost h n room (between bytes start end) answer to l
+        → Folding a m room bytes ends before end (i + 1) to l (set answers i answer)
+    fold_turn answer to l post =
         let room_here : i < length answers = omega (arith, g.cells, g.room_left) in
-        let put : take (i + 1) (set answers i r.answer) ≡ take i answers ++ r.answer ∷ [] =
-        ap (λ (k : ℕ). take k (set answers i r.answer)) (let one : i + 1 ≡ suc i = omega arith in one) ∙ take-suc-set answers i r.answer room_here in
+        let put : take (i + 1) (set answers i answer) ≡ take i answers ++ answer ∷ [] =
+        ap (λ (k : ℕ). take k (set answers i answer)) (let one : i + 1 ≡ suc i = omega arith in one) ∙ take-suc-set answers i answer room_here in
         let same : length g.done ≡ length (take i answers) = g.count ∙ sym (length-take-le i answers (let z : i ≤ length answers = omega arith in z)) in
         record {
           done = g.done ++ between bytes start end ∷ [];
           count = length-append g.done (between bytes start end ∷ []) ∙ ap (λ (x : ℕ). x + 1) g.count;
           few = omega arith;
           room_left = g.room_left;
-          cells = length-set answers i r.answer ∙ g.cells;
+          cells = length-set answers i answer ∙ g.cells;
           states =
               g.states
               ∙ ap (λ (x : List ℕ). g.done ++ splits bytes start x) rest
@@ -158,17 +157,17 @@ module _ (a : Accumulator) (m : Mem) (room : ℕ) (bytes ends before : List ℕ)
               ∙ sym (append_assoc g.done (between bytes start end ∷ []) (splits bytes end (drop (i + 1) ends)));
           cut = next.1;
           untouched =
-              drop-set-lt (i + 1) answers i r.answer (omega arith)
+              drop-set-lt (i + 1) answers i answer (omega arith)
               ∙ sym (drop-drop 1 i answers)
               ∙ ap (λ (x : List ℕ). drop 1 x) g.untouched
               ∙ drop-drop 1 i before;
-          fit = add_keeps h n room (between bytes start end) r l g.fit post;
+          fit = add_keeps h n room (between bytes start end) answer to l g.fit post;
           steps =
-              subst (λ (c : List Call). Steps a m c r.head l)
+              subst (λ (c : List Call). Steps a m c to l)
               (sym
               (ap (λ (y : List ℕ). added_all room (g.done ++ between bytes start end ∷ []) y []) put
-              ∙ added_last room g.done (take i answers) (between bytes start end) r.answer [] same))
-              (adding room (between bytes start end) r l g.steps post);
+              ∙ added_last room g.done (take i answers) (between bytes start end) answer [] same))
+              (adding room (between bytes start end) answer to l g.steps post);
           free =
               record {
                 registers = post.free.registers ∙ g.free.registers;
@@ -204,10 +203,10 @@ fold_goes_on a m room bytes ends answers r n left post first calls run =
 -- ---- question 1 and the states
 
 module _ (a : Accumulator) (m : Mem) (room : ℕ) (bytes ends answers : List ℕ) where
-  pub fold_unfit : fits a m ≡ false → FoldPost a m room bytes ends answers (record { answer = 1; head = a }) m answers
+  pub fold_unfit : fits a m ≡ false → FoldPost a m room bytes ends answers 1 a m answers
   fold_unfit e =
       record {
-        answer = sym (ap (λ (t : Bool). cond t 0 1) e);
+        answer_is = sym (ap (λ (t : Bool). cond t 0 1) e);
         refused = λ (f : fits a m ≡ false). (refl, refl, refl);
         folded = λ (f : fits a m ≡ true). absurd (true≢false (sym f ∙ e));
       }
@@ -218,27 +217,27 @@ module _ (a : Accumulator) (m : Mem) (room : ℕ) (bytes ends answers : List ℕ
       record { fit = f; cut = parts.1; room = leb-true (length ends) (length answers) parts.0 }
 
   pub fold_done : (h : Accumulator) (n : Mem) (left : List ℕ) → fits a m ≡ true → FoldedPost a m room bytes ends answers h n left
-      → FoldPost a m room bytes ends answers (record { answer = 0; head = h }) n left
+      → FoldPost a m room bytes ends answers 0 h n left
   fold_done h n left e post =
       record {
-        answer = sym (ap (λ (t : Bool). cond t 0 1) e);
+        answer_is = sym (ap (λ (t : Bool). cond t 0 1) e);
         refused = λ (f : fits a m ≡ false). absurd (true≢false (sym e ∙ f));
         folded = λ (f : fits a m ≡ true). post;
       }
 
   -- What the answer says of question 1.
-  module _ (r : Added) (n : Mem) (left : List ℕ) (post : FoldPost a m room bytes ends answers r n left) where
-    by_fit : (t : Bool) → fits a m ≡ t → r.answer ≡ cond t 0 1
-    by_fit t e = post.answer ∙ ap (λ (b : Bool). cond b 0 1) e
+  module _ (answer : ℕ) (r : Accumulator) (n : Mem) (left : List ℕ) (post : FoldPost a m room bytes ends answers answer r n left) where
+    by_fit : (t : Bool) → fits a m ≡ t → answer ≡ cond t 0 1
+    by_fit t e = post.answer_is ∙ ap (λ (b : Bool). cond b 0 1) e
 
-    pub was_fit : r.answer ≡ 0 → fits a m ≡ true
+    pub was_fit : answer ≡ 0 → fits a m ≡ true
     was_fit z = go (fits a m) refl
       where
         go : (t : Bool) → fits a m ≡ t → fits a m ≡ true
         go true e = e
         go false e = absurd (let y : ⊥ = omega (arith, by_fit false e) in y)
 
-    pub was_unfit : (r.answer ≡ 0 → ⊥) → fits a m ≡ false
+    pub was_unfit : (answer ≡ 0 → ⊥) → fits a m ≡ false
     was_unfit z = go (fits a m) refl
       where
         go : (t : Bool) → fits a m ≡ t → fits a m ≡ false
@@ -253,8 +252,8 @@ one_fits bytes cell = both (le-leb 1 1 (omega arith)) (ends_one (length bytes))
 
 -- One call is what it promises.
 one_call : {a : Accumulator} {m : Mem} {room : ℕ} {s : List ℕ} {k : ℕ} {h : Accumulator} {n : Mem} → Steps a m (added room s k ∷ []) h n
-    → AddPost a m room s (record { answer = k; head = h }) n
-one_call (adding room s r n begun post) = post
+    → AddPost a m room s k h n
+one_call (adding room s k h n begun post) = post
 
 one_added : (room : ℕ) (bytes left : List ℕ) → length left ≡ 1
     → added_all room (splits bytes 0 (length bytes ∷ [])) left [] ≡ added room (between bytes 0 (length bytes)) (get_or left 0 0) ∷ []
@@ -262,22 +261,22 @@ unfolding added_all splits
 one_added room bytes [] e = absurd (let z : ⊥ = omega arith in z)
 one_added room bytes (k ∷ left) e = refl
 
-module _ (a : Accumulator) (m : Mem) (room : ℕ) (bytes : List ℕ) (cell : ℕ) (r : Added) (n : Mem) (left : List ℕ)
-    (post : FoldPost a m room bytes (length bytes ∷ []) (cell ∷ []) r n left) where
-  pub one_state : r.answer ≡ 0 → AddPost a m room bytes (record { answer = get_or left 0 0; head = r.head }) n
+module _ (a : Accumulator) (m : Mem) (room : ℕ) (bytes : List ℕ) (cell answer : ℕ) (r : Accumulator) (n : Mem) (left : List ℕ)
+    (post : FoldPost a m room bytes (length bytes ∷ []) (cell ∷ []) answer r n left) where
+  pub one_state : answer ≡ 0 → AddPost a m room bytes (get_or left 0 0) r n
   one_state z =
-      let folded = post.folded (was_fit a m room bytes (length bytes ∷ []) (cell ∷ []) r n left post z) in
-      subst (λ (s : List ℕ). AddPost a m room s (record { answer = get_or left 0 0; head = r.head }) n) (take_all (length bytes - 0) bytes (omega arith))
-      (one_call (subst (λ (c : List Call). Steps a m c r.head n) (one_added room bytes left folded.cells) folded.steps))
+      let folded = post.folded (was_fit a m room bytes (length bytes ∷ []) (cell ∷ []) answer r n left post z) in
+      subst (λ (s : List ℕ). AddPost a m room s (get_or left 0 0) r n) (take_all (length bytes - 0) bytes (omega arith))
+      (one_call (subst (λ (c : List Call). Steps a m c r n) (one_added room bytes left folded.cells) folded.steps))
 
-  pub one_refused : (r.answer ≡ 0 → ⊥) → AddPost a m room bytes r n
+  pub one_refused : (answer ≡ 0 → ⊥) → AddPost a m room bytes answer r n
   one_refused z =
-      let unfit = was_unfit a m room bytes (length bytes ∷ []) (cell ∷ []) r n left post z in
+      let unfit = was_unfit a m room bytes (length bytes ∷ []) (cell ∷ []) answer r n left post z in
       let same = post.refused unfit in
-      let one : r.answer ≡ 1 = post.answer ∙ ap (λ (b : Bool). cond b 0 1) unfit in
-      subst (λ (l : Mem). AddPost a m room bytes r l) (sym same.1)
-      (subst (λ (h : Accumulator). AddPost a m room bytes (record { answer = r.answer; head = h }) m) (sym same.0)
-      (subst (λ (k : ℕ). AddPost a m room bytes (record { answer = k; head = a }) m) (sym one)
+      let one : answer ≡ 1 = post.answer_is ∙ ap (λ (b : Bool). cond b 0 1) unfit in
+      subst (λ (l : Mem). AddPost a m room bytes answer r l) (sym same.1)
+      (subst (λ (h : Accumulator). AddPost a m room bytes answer h m) (sym same.0)
+      (subst (λ (k : ℕ). AddPost a m room bytes k a m) (sym one)
       (refused_post a m room bytes 1 (add_unfit a m room bytes unfit))))
 
 -- ---- of a head that is a row
@@ -308,28 +307,28 @@ module _ (row : List ℕ) (m : Mem) (room : ℕ) (bytes ends answers : List ℕ)
       fits_row t e =
           ap (λ (b : Bool). b && fits (head_in row) m) x.yes_head ∙ ap (λ (h : Accumulator). fits h m) (sym x.is_head) ∙ e
 
-      module _ (r : Added) (n : Mem) (left : List ℕ) (post : FoldPost a m room bytes ends answers r n left) where
+      module _ (answer : ℕ) (r : Accumulator) (n : Mem) (left : List ℕ) (post : FoldPost a m room bytes ends answers answer r n left) where
         -- Question 1 was answered with no.
-        pub row_unfit : (r.answer ≡ 0 → ⊥) → FoldRowPost row m room bytes ends answers r.answer row n left
+        pub row_unfit : (answer ≡ 0 → ⊥) → FoldRowPost row m room bytes ends answers answer row n left
         row_unfit z =
-            let e = was_unfit a m room bytes ends answers r n left post z in
+            let e = was_unfit a m room bytes ends answers answer r n left post z in
             let same = post.refused e in
             record {
-              answer_is = post.answer ∙ ap (λ (t : Bool). cond t 0 1) e ∙ sym (answered false (fits_row false e));
-              refused = λ (f : r.answer ≡ 0 → ⊥). (refl, same.1, same.2);
-              folded = λ (f : r.answer ≡ 0). absurd (z f);
+              answer_is = post.answer_is ∙ ap (λ (t : Bool). cond t 0 1) e ∙ sym (answered false (fits_row false e));
+              refused = λ (f : answer ≡ 0 → ⊥). (refl, same.1, same.2);
+              folded = λ (f : answer ≡ 0). absurd (z f);
             }
 
-        pub row_folded : r.answer ≡ 0 → (after : List ℕ) → after ≡ with_head r.head row → FoldRowPost row m room bytes ends answers 0 after n left
+        pub row_folded : answer ≡ 0 → (after : List ℕ) → after ≡ with_head r row → FoldRowPost row m room bytes ends answers 0 after n left
         row_folded z after put =
-            let f = was_fit a m room bytes ends answers r n left post z in
+            let f = was_fit a m room bytes ends answers answer r n left post z in
             record {
               answer_is = sym (answered true (fits_row true f));
               refused = λ (g : ◌≡◌ {A = ℕ} 0 0 → ⊥). absurd (g refl);
               folded = λ (g : ◌≡◌ {A = ℕ} 0 0).
                   record {
-                    head = r.head;
-                    post = subst (λ (b : Accumulator). FoldedPost b m room bytes ends answers r.head n left) x.is_head (post.folded f);
+                    head = r;
+                    post = subst (λ (b : Accumulator). FoldedPost b m room bytes ends answers r n left) x.is_head (post.folded f);
                     row_left = put;
                   };
             }

@@ -19,7 +19,7 @@ pub record FreshPost (row : List ℕ) (answer : ℕ) (after : List ℕ) : Type 0
 -- The row is a head: what `add` promises of it, and the head that it answered stands in the row.
 pub record AddedRow (row : List ℕ) (m : Mem) (room : ℕ) (bytes : List ℕ) (answer : ℕ) (after : List ℕ) (n : Mem) : Type 0 where
   pub head : Accumulator
-  pub post : AddPost (head_in row) m room bytes (record { answer = answer; head = head }) n
+  pub post : AddPost (head_in row) m room bytes answer head n
   pub row_left : after ≡ with_head head row
 
 pub record AddRowPost (row : List ℕ) (m : Mem) (room : ℕ) (bytes : List ℕ) (answer : ℕ) (after : List ℕ) (n : Mem) : Type 0 where
@@ -29,7 +29,7 @@ pub record AddRowPost (row : List ℕ) (m : Mem) (room : ℕ) (bytes : List ℕ)
 -- Writing: the number of bytes goes into the first cell of `len`, if it has one.
 pub record WrittenRow (row : List ℕ) (m : Mem) (room : ℕ) (out len : List ℕ) (answer : ℕ) (n : Mem) (after len-left : List ℕ) : Type 0 where
   pub bytes : ℕ
-  pub post : WritePost (head_in row) m room out (record { answer = answer; len = bytes }) n after
+  pub post : WritePost (head_in row) m room out answer bytes n after
   pub cell : len-left ≡ set len 0 bytes
 
 pub record WriteRowPost (row : List ℕ) (m : Mem) (room : ℕ) (out len : List ℕ) (answer : ℕ) (n : Mem) (after len-left : List ℕ) : Type 0 where

@@ -1,7 +1,6 @@
 -- Many states in one slice, with their ends: what `filmoed_fold` promises.
 use Rattle.std.specs.Prelude.{◌≡◌, List, [], ◌∷◌, Bool, true, false, cond, ◌&&◌, ℕ, ◌-◌, ◌≤◌, leb, length, take, drop}
 use Rattle.rollup.specs.declared.accumulator.Accumulator.{Accumulator}
-use Rattle.rollup.specs.declared.adding.Added.{Added}
 use Rattle.rollup.specs.Accumulator.{Mem, fits}
 use Rattle.rollup.specs.Taking.{Free}
 use Rattle.rollup.specs.Calls.{Call, Steps, Run}
@@ -48,10 +47,10 @@ FoldGoesOn =
     → Run first (added_all room (splits bytes 0 ends) left calls) r n
 
 -- Question 1 once, and then the states. The answer is to that question; where it is no, nothing is changed.
-pub record FoldPost (a : Accumulator) (m : Mem) (room : ℕ) (bytes ends answers : List ℕ) (r : Added) (n : Mem) (left : List ℕ) : Type 0 where
-  pub answer : r.answer ≡ cond (fits a m) 0 1
-  pub refused : fits a m ≡ false → (r.head ≡ a) × (n ≡ m) × (left ≡ answers)
-  pub folded : fits a m ≡ true → FoldedPost a m room bytes ends answers r.head n left
+pub record FoldPost (a : Accumulator) (m : Mem) (room : ℕ) (bytes ends answers : List ℕ) (answer : ℕ) (r : Accumulator) (n : Mem) (left : List ℕ) : Type 0 where
+  pub answer_is : answer ≡ cond (fits a m) 0 1
+  pub refused : fits a m ≡ false → (r ≡ a) × (n ≡ m) × (left ≡ answers)
+  pub folded : fits a m ≡ true → FoldedPost a m room bytes ends answers r n left
 
 -- What the loop asks: a head that fits, ends that do, and a cell for each answer.
 pub record FoldedPre (a : Accumulator) (m : Mem) (bytes ends answers : List ℕ) : Type 0 where

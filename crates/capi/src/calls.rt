@@ -8,7 +8,7 @@ ghost use Rattle.capi.specs.Folds.{FoldRowPost};
 use crate::heads::Head;
 use crate::{folding, heads};
 use rollup::accumulator::Accumulator;
-use rollup::writing;
+use rollup::memory::Memory;
 
 // Puts a fresh head into the row; 1 where it has no ten cells.
 pub fn filmoed_fresh(head: &mut [u64]) -> u8
@@ -21,7 +21,7 @@ pub fn filmoed_fresh(head: &mut [u64]) -> u8
     0
 }
 
-// Adds a state: what `rollup::adding::add` promises.
+// Adds a state: what `Accumulator::add` of `rollup` promises.
 pub fn filmoed_add(
     head: &mut [u64],
     registers: &mut [u8],
@@ -36,9 +36,16 @@ pub fn filmoed_add(
     let Head::Is(a) = h else {
         return 1;
     };
-    let r = folding::add_one(a, registers, sparse, pending, scratch, state);
-    heads::put_head(head, r.head);
-    r.answer
+    let mut a = a;
+    let mut memory = Memory {
+        registers,
+        sparse,
+        pending,
+        scratch,
+    };
+    let answer = folding::add_one(&mut a, &mut memory, state);
+    heads::put_head(head, a);
+    answer
 }
 
 // The first cell, if there is one.
@@ -50,7 +57,7 @@ fn put_first(cells: &mut [u64], v: u64)
     }
 }
 
-// Writes a roll-up: `rollup::writing::write`. How many bytes were written is put into the first cell of `len`.
+// Writes a roll-up: `Accumulator::write` of `rollup`. How many bytes were written is put into the first cell of `len`.
 pub fn filmoed_write(
     head: &[u64],
     registers: &[u8],
@@ -67,9 +74,16 @@ pub fn filmoed_write(
         put_first(len, 0);
         return 1;
     };
-    let r = writing::write(a, registers, sparse, pending, scratch, out);
-    put_first(len, r.len as u64);
-    r.answer
+    match a.write(registers, sparse, pending, scratch, out) {
+        Ok(n) => {
+            put_first(len, n as u64);
+            0
+        }
+        Err(e) => {
+            put_first(len, 0);
+            e.number()
+        }
+    }
 }
 
 // The answer to a fold whose ends do not fit: one is before the last one or past the bytes, or has no cell for its answer. The papers' numbers end before 100.
@@ -95,12 +109,18 @@ pub fn filmoed_fold(
     let Head::Is(a) = h else {
         return 1;
     };
-    let r = folding::fold(
-        a, registers, sparse, pending, scratch, states, ends, answers,
-    );
-    if r.answer != 0 {
-        return r.answer;
+    let mut a = a;
+    let mut memory = Memory {
+        registers,
+        sparse,
+        pending,
+        scratch,
+    };
+    match folding::fold(&mut a, &mut memory, states, ends, answers) {
+        Ok(()) => {
+            heads::put_head(head, a);
+            0
+        }
+        Err(e) => e.number(),
     }
-    heads::put_head(head, r.head);
-    0
 }

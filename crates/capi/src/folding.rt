@@ -1,13 +1,16 @@
-// Many states, added one after the other: question 1 is asked once, and then each state goes to `add_fitting`, which does not ask it again. One state is a fold of one: with a
-// single call of `add_fitting` in the library LLVM puts its code into the loop, and the head stays where it is from turn to turn.
+// Many states, added one after the other: question 1 is asked once, and then each state goes to `Fitted::add`, which does not ask it again. One state is a fold of one: with a
+// single call of it in the library LLVM puts its code into the loop, and the head stays where it is from turn to turn.
 ghost use Rattle.std.specs.Prelude.{◌≡◌, true, ◌&&◌, leb, length};
-ghost use Rattle.rollup.specs.Accumulator.{mem};
+ghost use Rattle.rollup.specs.Lent.{mem_of, SameLent};
+ghost use Rattle.rollup.specs.Refusals.{answer_of};
 ghost use Rattle.rollup.specs.Adding.{AddPost};
 ghost use Rattle.capi.specs.Folds.{ends_fit, fold_fits, FoldedPre, FoldedPost, FoldPost};
 
 use rollup::accumulator::Accumulator;
-use rollup::adding::Added;
-use rollup::{adding, fitting};
+use rollup::adding::Fitted;
+use rollup::memory::Memory;
+use rollup::refusal;
+use rollup::refusal::Refusal;
 
 // Whether it was so before and `end` is not before `start`, with no branch in a loop.
 fn goes_on(before: bool, start: u64, end: u64) -> bool
@@ -45,91 +48,58 @@ pub(crate) fn fold_fits(bytes: &[u8], ends: &[u64], answers: &[u8]) -> bool
 // Adds the states between the ends, and puts each answer into its cell.
 fn fold_states(
     a: Accumulator,
-    registers: &mut [u8],
-    sparse: &mut [u32],
-    pending: &mut [u32],
-    scratch: &mut [u32],
+    memory: &mut Memory,
     bytes: &[u8],
     ends: &[u64],
     answers: &mut [u8],
 ) -> Accumulator
-    requires { FoldedPre a (mem registers.old sparse.old pending.old) bytes.now ends.now answers.old }
-    ensures { FoldedPost a (mem registers.old sparse.old pending.old) (length scratch.old) bytes.now ends.now answers.old result (mem registers.new sparse.new pending.new) answers.new }
+    requires { FoldedPre a (mem_of memory.old) bytes.now ends.now answers.old }
+    ensures folded { FoldedPost a (mem_of memory.old) (length memory.old.scratch.now) bytes.now ends.now answers.old result (mem_of memory.new) answers.new }
+    ensures same { SameLent memory.old memory.new }
 {
-    let mut head = a;
-    let mut distinct = false;
+    let mut fitted = Fitted {
+        head: a,
+        distinct: false,
+    };
     let mut start: usize = 0;
     let mut i: usize = 0;
     while i < ends.len() {
         let end = ends[i] as usize;
-        let r = adding::add_fitting(
-            head,
-            distinct,
-            registers,
-            sparse,
-            pending,
-            scratch,
-            &bytes[start..end],
-        );
-        head = r.head;
-        distinct = r.distinct;
-        answers[i] = r.answer;
+        answers[i] = refusal::answer_of(fitted.add(memory, &bytes[start..end]));
         start = end;
         i += 1;
     }
-    head
+    fitted.head
 }
 
 // Question 1, once, and then the states. The answer is to that question; each state has its own.
 pub(crate) fn fold(
-    a: Accumulator,
-    registers: &mut [u8],
-    sparse: &mut [u32],
-    pending: &mut [u32],
-    scratch: &mut [u32],
+    head: &mut Accumulator,
+    memory: &mut Memory,
     bytes: &[u8],
     ends: &[u64],
     answers: &mut [u8],
-) -> Added
+) -> Result<(), Refusal>
     requires { fold_fits bytes.now ends.now answers.old ≡ true }
-    ensures { FoldPost a (mem registers.old sparse.old pending.old) (length scratch.old) bytes.now ends.now answers.old result (mem registers.new sparse.new pending.new) answers.new }
+    ensures folded { FoldPost head.old (mem_of memory.old) (length memory.old.scratch.now) bytes.now ends.now answers.old (answer_of result) head.new (mem_of memory.new) answers.new }
+    ensures same { SameLent memory.old memory.new }
 {
-    if !fitting::fits(a, &registers[..], &sparse[..], &pending[..]) {
-        return Added { answer: 1, head: a };
+    if !head.fits_in(memory) {
+        return Err(Refusal::Misfit);
     }
-    let head = fold_states(a, registers, sparse, pending, scratch, bytes, ends, answers);
-    Added { answer: 0, head }
+    *head = fold_states(*head, memory, bytes, ends, answers);
+    Ok(())
 }
 
-// Adds one state: what `rollup::adding::add` promises, by a fold of one.
-pub(crate) fn add_one(
-    a: Accumulator,
-    registers: &mut [u8],
-    sparse: &mut [u32],
-    pending: &mut [u32],
-    scratch: &mut [u32],
-    state: &[u8],
-) -> Added
-    ensures { AddPost a (mem registers.old sparse.old pending.old) (length scratch.old) state.now result (mem registers.new sparse.new pending.new) }
+// Adds one state: what `Accumulator::add` of `rollup` promises, by a fold of one.
+pub(crate) fn add_one(head: &mut Accumulator, memory: &mut Memory, state: &[u8]) -> u8
+    ensures post { AddPost head.old (mem_of memory.old) (length memory.old.scratch.now) state.now result head.new (mem_of memory.new) }
+    ensures same { SameLent memory.old memory.new }
 {
     let ends = [state.len() as u64; 1];
     let mut answers = [0u8; 1];
-    let r = fold(
-        a,
-        registers,
-        sparse,
-        pending,
-        scratch,
-        state,
-        &ends,
-        &mut answers,
-    );
-    if r.answer != 0 {
-        return r;
-    }
-    let head = r.head;
-    Added {
-        answer: answers[0],
-        head,
+    match fold(head, memory, state, &ends, &mut answers) {
+        Ok(()) => answers[0],
+        Err(e) => e.number(),
     }
 }

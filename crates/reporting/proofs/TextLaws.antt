@@ -28,6 +28,7 @@ use Rattle.batch.specs.declared.closing.Report.{Report}
 use Rattle.reporting.specs.Text.{answer_line, answer_lines, ending_text, not_zero_of, numbers_line, numbers_text, state_text, report_text}
 use Rattle.reporting.specs.Report.{too_long_message}
 use Rattle.reporting.proofs.NumberLaws.{signed_one, signed_length, number_length, number_short}
+use Rattle.rollup.specs.Refusals.{answer_of, length_of}
 
 -- ---- a number
 
@@ -173,22 +174,22 @@ hex_put out y bytes at k m room few p = line_put out y (hex_text bytes) at 10 k 
 -- ---- all of it
 
 pub report_are : (r : Report) (answers out : List ℕ)
-    → Four (report_text r answers out) (answer_lines 1 (take r.rolled.records answers)) (ending_text r.rolled.ending r.rolled.records) (numbers_text r.rolled.head r.not_zero) (state_text r.written.answer (take r.written.len out))
+    → Four (report_text r answers out) (answer_lines 1 (take r.rolled.records answers)) (ending_text r.rolled.ending r.rolled.records) (numbers_text r.rolled.head r.not_zero) (state_text (answer_of r.written) (take (length_of r.written) out))
 unfolding report_text
 report_are r answers out =
     four _ _ _ _
     (ap (λ (l : List ℕ). answer_lines 1 (take r.rolled.records answers) ++ l)
-    (append_assoc (ending_text r.rolled.ending r.rolled.records) (numbers_text r.rolled.head r.not_zero) (state_text r.written.answer (take r.written.len out))))
+    (append_assoc (ending_text r.rolled.ending r.rolled.records) (numbers_text r.rolled.head r.not_zero) (state_text (answer_of r.written) (take (length_of r.written) out))))
 
 -- Of bytes that are no batch: "0 24", and of a fresh head four zeros and 21.
 pub text_24 : {r : Report} (answers output : List ℕ) → NoBatch r → report_text r answers output ≡ too_long_message
 unfolding figures signed_text number_text answer_line answer_lines ending_text numbers_line state_text report_text
 text_24 {r} answers output h =
-    ap (λ (n : ℕ). all n r.rolled.ending r.rolled.head r.not_zero r.written.answer) h.records
-    ∙ ap (λ (e : Ending). all 0 e r.rolled.head r.not_zero r.written.answer) h.ending
-    ∙ ap (λ (a : Accumulator). all 0 (Refused 24) a r.not_zero r.written.answer) h.head
-    ∙ ap (λ (c : Count). all 0 (Refused 24) fresh c r.written.answer) h.count
+    ap (λ (n : ℕ). all n r.rolled.ending r.rolled.head r.not_zero (answer_of r.written)) h.records
+    ∙ ap (λ (e : Ending). all 0 e r.rolled.head r.not_zero (answer_of r.written)) h.ending
+    ∙ ap (λ (a : Accumulator). all 0 (Refused 24) a r.not_zero (answer_of r.written)) h.head
+    ∙ ap (λ (c : Count). all 0 (Refused 24) fresh c (answer_of r.written)) h.count
     ∙ ap (all 0 (Refused 24) fresh (Registers 0)) h.written
   where
     all : ℕ → Ending → Accumulator → Count → ℕ → List ℕ
-    all n e a c answer = answer_lines 1 (take n answers) ++ ((ending_text e n ++ numbers_text a c) ++ state_text answer (take r.written.len output))
+    all n e a c answer = answer_lines 1 (take n answers) ++ ((ending_text e n ++ numbers_text a c) ++ state_text answer (take (length_of r.written) output))

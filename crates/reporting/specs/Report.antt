@@ -14,13 +14,14 @@ use Rattle.batch.specs.Closing.{ReportPost}
 use Rattle.reporting.specs.declared.Heard.{Heard}
 use Rattle.reporting.specs.declared.Heard.TheVariants.{Batch, Nothing}
 use Rattle.reporting.specs.Text.{report_text}
+use Rattle.rollup.specs.Refusals.{length_of}
 
 -- The report lies inside its memory, with no more records than a batch can have (`records_few` of `batch`), and no more bytes written than were lent.
 pub record ReportIn (r : Report) (answers out : List ℕ) : Type 0 where
   pub records_in : r.rolled.records ≤ length answers
   pub records_few : r.rolled.records ≤ 21844
-  pub written_in : r.written.len ≤ length out
-  pub written_few : r.written.len ≤ 65536
+  pub written_in : (length_of r.written) ≤ length out
+  pub written_few : (length_of r.written) ≤ 65536
 
 -- What `roll` of `batch` promises of a batch that is rolled up in "65,536 registers, three lists of 16,384 and 65,536 output bytes", whatever they held:
 -- this report, these answers, this output. `cells` and `bytes` are what the answers' cells and the output held before.

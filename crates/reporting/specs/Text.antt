@@ -9,6 +9,7 @@ use Rattle.batch.specs.declared.closing.Count.{Count}
 use Rattle.batch.specs.declared.closing.Count.TheVariants.{Registers, Short}
 use Rattle.batch.specs.declared.closing.Report.{Report}
 use Rattle.reporting.specs.Numbers.{number_text}
+use Rattle.rollup.specs.Refusals.{answer_of, length_of}
 
 -- "Ordinal and answer", or "ordinal (0 for 24) and number".
 unfoldable pub answer_line : ℕ → ℕ → List ℕ
@@ -49,4 +50,4 @@ closing_text r = ending_text r.rolled.ending r.rolled.records ++ numbers_text r.
 -- All of it, in order. The answers are those of as many cells as there were records, the state as many bytes of the output as were written.
 unfoldable pub report_text : Report → List ℕ → List ℕ → List ℕ
 report_text r answers out =
-    answer_lines 1 (take r.rolled.records answers) ++ (closing_text r ++ state_text r.written.answer (take r.written.len out))
+    answer_lines 1 (take r.rolled.records answers) ++ (closing_text r ++ state_text (answer_of r.written) (take (length_of r.written) out))

@@ -13,6 +13,7 @@ use batch::closing::Report;
 use console::input::{Arrived, Stream};
 use console::output::Said;
 use console::{input, output};
+use rollup::memory::Memory;
 use std::io::{Stderr, Stdin, Stdout};
 
 mod text;
@@ -34,16 +35,13 @@ fn roll_up(batch: &[u8], answers: &mut [u8; 65536], out: &mut [u8; 65536]) -> Re
     let mut pending = [0u32; 16384];
     let mut scratch = [0u32; 16384];
     let mut spare = [0u8; 65536];
-    closing::roll(
-        batch,
-        &mut registers,
-        &mut sparse,
-        &mut pending,
-        &mut scratch,
-        answers,
-        &mut spare,
-        out,
-    )
+    let mut memory = Memory {
+        registers: &mut registers,
+        sparse: &mut sparse,
+        pending: &mut pending,
+        scratch: &mut scratch,
+    };
+    closing::roll(batch, &mut memory, answers, &mut spare, out)
 }
 
 // Rolls up a batch, and puts the text of its report at the front of `text`, which takes the longest. The answer is the text's length.

@@ -3,6 +3,7 @@ ghost use Rattle.std.specs.Prelude.{◌≡◌, ◌+◌, ◌*◌, ◌≤◌, leng
 ghost use Rattle.std.specs.Counts.{IsPrefixLen};
 ghost use Rattle.wire.specs.Varints.{PutPost};
 ghost use Rattle.reporting.specs.Numbers.{number_text};
+ghost use Rattle.rollup.specs.Refusals.{answer_of, length_of};
 ghost use Rattle.reporting.specs.Text.{answer_line, answer_lines, ending_text, not_zero_of, numbers_text, state_text, report_text};
 ghost use Rattle.reporting.specs.Report.{ReportIn};
 
@@ -10,7 +11,7 @@ use batch::closing::{Count, Report};
 use batch::records::Ending;
 use console::output;
 use rollup::accumulator::Accumulator;
-use rollup::writing::Written;
+use rollup::refusal::Refusal;
 
 // Puts a number in decimal and the byte after it, a blank or a newline, and answers the position past them.
 fn put_number(text: &mut [u8], at: usize, v: u64, end: u8) -> usize
@@ -87,17 +88,18 @@ fn put_numbers(text: &mut [u8], at: usize, a: Accumulator, not_zero: Count) -> u
 }
 
 // The written state and a newline, or the number of the refusal.
-fn put_state(text: &mut [u8], at: usize, written: Written, out: &[u8]) -> usize
-    requires { (written.len ≤ length out.now) × (at + 2 * written.len + 22 ≤ length text.old) }
-    ensures { PutPost text.old at (state_text written.answer (take written.len out.now)) result text.new }
+fn put_state(text: &mut [u8], at: usize, written: Result<usize, Refusal>, out: &[u8]) -> usize
+    requires { (length_of written ≤ length out.now) × (at + 2 * length_of written + 22 ≤ length text.old) }
+    ensures { PutPost text.old at (state_text (answer_of written) (take (length_of written) out.now)) result text.new }
 {
-    if written.answer != 0 {
-        return put_number(text, at, written.answer as u64, b'\n');
+    match written {
+        Ok(len) => {
+            let end = at + output::hex(&out[..len], &mut text[at..]);
+            text[end] = b'\n';
+            end + 1
+        }
+        Err(e) => put_number(text, at, e.number() as u64, b'\n'),
     }
-    let len = written.len;
-    let end = at + output::hex(&out[..len], &mut text[at..]);
-    text[end] = b'\n';
-    end + 1
 }
 
 // The whole text of a report at the front of the buffer, which takes the longest: 21,844 lines, the line of 24 or 25, the four numbers, and a state of

@@ -1,56 +1,93 @@
 use Prim.Native.Nat.{ℕ, ◌≤◌}
-use mathlib.Core.Path.{refl, ◌∙◌, subst}
+use mathlib.Core.Path.{refl, sym, ◌∙◌, subst}
 use native.Mathlib.Omega.{arith}
 use lib.ListN.{length, get_or, length-set}
 use Rattle.wire.proofs.BoolLaws.{never}
-use Rattle.rollup.specs.declared.adding.Added.{Added}
-use Rattle.rollup.specs.Accumulator.{Mem, mem}
 use Rattle.rollup.specs.Adding.{AddPost}
+use Rattle.rollup.specs.Lent.{mem_of}
+use Rattle.rollup.proofs.LentLaws.{lent_same, lent_after}
 use Rattle.capi.specs.Folds.{between}
 use Rattle.capi.proofs.FoldLaws.{fold_start, state_from, state_to, fold_turn, fold_end}
 use Rattle.capi.proofs.folding.fold_states.Goals as goal
 
 pub loop-i-init : goal.loop-i-init
 loop-i-init c =
-    let m : Mem = mem c.args.registers.now c.args.sparse.now c.args.pending.now in
-    (fold_start c.args.a m (length c.args.scratch.now) c.args.bytes.now c.args.ends.now c.args.answers.now c.requires, refl, refl, refl, refl, refl, never)
+    record {
+      folding = fold_start c.args.a (mem_of c.args.memory.now) (length c.args.memory.now.scratch.now) c.args.bytes.now c.args.ends.now c.args.answers.now c.requires;
+      same = lent_same c.args.memory.now;
+      cells = refl;
+      known = never;
+    }
 
-pub slice_bounds-add_fitting-count : goal.slice_bounds-add_fitting-count
-slice_bounds-add_fitting-count c =
-    let m : Mem = mem c.args.registers.now c.args.sparse.now c.args.pending.now in
-    let from : c.loop-i.start ≤ get_or c.args.ends.now c.loop-i.i 0 = let l = c.loop-i in
-    state_from c.args.a m (length c.args.scratch.now) c.args.bytes.now c.args.ends.now c.args.answers.now l.start l.i l.head (mem l.registers l.sparse l.pending) l.answers l.invariant.0 (get_or c.args.ends.now l.i 0) c.loop-i-test.true refl in let to : get_or c.args.ends.now c.loop-i.i 0 ≤ length c.args.bytes.now = let l = c.loop-i in
-    state_to c.args.a m (length c.args.scratch.now) c.args.bytes.now c.args.ends.now c.args.answers.now l.start l.i l.head (mem l.registers l.sparse l.pending) l.answers l.invariant.0 (get_or c.args.ends.now l.i 0) c.loop-i-test.true refl in omega (arith, from, to)
+pub slice_bounds-add-count : goal.slice_bounds-add-count
+slice_bounds-add-count c =
+    let l = c.loop-i in
+    let a = c.args in
+    let m = mem_of a.memory.now in
+    let room = length a.memory.now.scratch.now in
+    let end = get_or a.ends.now l.i 0 in
+    omega (
+      arith,
+      state_from a.a m room a.bytes.now a.ends.now a.answers.now l.start l.i l.fitted.head (mem_of l.memory) l.answers l.invariant.folding end c.loop-i-test.true refl,
+      state_to a.a m room a.bytes.now a.ends.now a.answers.now l.start l.i l.fitted.head (mem_of l.memory) l.answers l.invariant.folding end c.loop-i-test.true refl,
+    )
 
-pub slice_bounds-add_fitting-start : goal.slice_bounds-add_fitting-start
-slice_bounds-add_fitting-start c =
-    let m : Mem = mem c.args.registers.now c.args.sparse.now c.args.pending.now in
-    let from : c.loop-i.start ≤ get_or c.args.ends.now c.loop-i.i 0 = let l = c.loop-i in
-    state_from c.args.a m (length c.args.scratch.now) c.args.bytes.now c.args.ends.now c.args.answers.now l.start l.i l.head (mem l.registers l.sparse l.pending) l.answers l.invariant.0 (get_or c.args.ends.now l.i 0) c.loop-i-test.true refl in let to : get_or c.args.ends.now c.loop-i.i 0 ≤ length c.args.bytes.now = let l = c.loop-i in
-    state_to c.args.a m (length c.args.scratch.now) c.args.bytes.now c.args.ends.now c.args.answers.now l.start l.i l.head (mem l.registers l.sparse l.pending) l.answers l.invariant.0 (get_or c.args.ends.now l.i 0) c.loop-i-test.true refl in omega (arith, from, to)
+pub slice_bounds-add-start : goal.slice_bounds-add-start
+slice_bounds-add-start c =
+    let l = c.loop-i in
+    let a = c.args in
+    let m = mem_of a.memory.now in
+    let room = length a.memory.now.scratch.now in
+    let end = get_or a.ends.now l.i 0 in
+    omega (
+      arith,
+      state_from a.a m room a.bytes.now a.ends.now a.answers.now l.start l.i l.fitted.head (mem_of l.memory) l.answers l.invariant.folding end c.loop-i-test.true refl,
+      state_to a.a m room a.bytes.now a.ends.now a.answers.now l.start l.i l.fitted.head (mem_of l.memory) l.answers l.invariant.folding end c.loop-i-test.true refl,
+    )
 
-pub slice_bounds-add_fitting-end : goal.slice_bounds-add_fitting-end
-slice_bounds-add_fitting-end c =
-    let m : Mem = mem c.args.registers.now c.args.sparse.now c.args.pending.now in
-    let from : c.loop-i.start ≤ get_or c.args.ends.now c.loop-i.i 0 = let l = c.loop-i in
-    state_from c.args.a m (length c.args.scratch.now) c.args.bytes.now c.args.ends.now c.args.answers.now l.start l.i l.head (mem l.registers l.sparse l.pending) l.answers l.invariant.0 (get_or c.args.ends.now l.i 0) c.loop-i-test.true refl in let to : get_or c.args.ends.now c.loop-i.i 0 ≤ length c.args.bytes.now = let l = c.loop-i in
-    state_to c.args.a m (length c.args.scratch.now) c.args.bytes.now c.args.ends.now c.args.answers.now l.start l.i l.head (mem l.registers l.sparse l.pending) l.answers l.invariant.0 (get_or c.args.ends.now l.i 0) c.loop-i-test.true refl in omega (arith, from, to)
+pub slice_bounds-add-end : goal.slice_bounds-add-end
+slice_bounds-add-end c =
+    let l = c.loop-i in
+    let a = c.args in
+    let m = mem_of a.memory.now in
+    let room = length a.memory.now.scratch.now in
+    let end = get_or a.ends.now l.i 0 in
+    omega (
+      arith,
+      state_from a.a m room a.bytes.now a.ends.now a.answers.now l.start l.i l.fitted.head (mem_of l.memory) l.answers l.invariant.folding end c.loop-i-test.true refl,
+      state_to a.a m room a.bytes.now a.ends.now a.answers.now l.start l.i l.fitted.head (mem_of l.memory) l.answers l.invariant.folding end c.loop-i-test.true refl,
+    )
 
-pub add_fitting-r-requires : goal.add_fitting-r-requires
-add_fitting-r-requires c = record { fit = c.loop-i.invariant.0.fit; known = c.loop-i.invariant.6 }
+pub add-requires : goal.add-requires
+add-requires c = record { fit = c.loop-i.invariant.folding.fit; known = c.loop-i.invariant.known }
 
 pub overflow_add-i : goal.overflow_add-i
 overflow_add-i c = omega (arith, c.loop-i-test.true, c.well_formed)
 
 pub loop-i-preserved : goal.loop-i-preserved
-loop-i-preserved c = let m : Mem = mem c.args.registers.now c.args.sparse.now c.args.pending.now in let l = c.loop-i in
-    let end = get_or c.args.ends.now l.i 0 in
-    let r : Added = record { answer = c.add_fitting-r.result.answer; head = c.add_fitting-r.result.head } in
-    let before = mem l.registers l.sparse l.pending in
-    let after = mem c.add_fitting-r.new.registers c.add_fitting-r.new.sparse c.add_fitting-r.new.pending in
-    let post = subst (λ (k : ℕ). AddPost l.head before k (between c.args.bytes.now l.start end) r after) l.invariant.4 c.add_fitting-r.ensures.added in
-    (fold_turn c.args.a m (length c.args.scratch.now) c.args.bytes.now c.args.ends.now c.args.answers.now l.start l.i l.head before l.answers l.invariant.0 end c.loop-i-test.true refl r after post, c.add_fitting-r.auto.registers ∙ l.invariant.1, c.add_fitting-r.auto.sparse ∙ l.invariant.2, c.add_fitting-r.auto.pending ∙ l.invariant.3, c.add_fitting-r.auto.scratch ∙ l.invariant.4, length-set l.answers l.i r.answer ∙ l.invariant.5, c.add_fitting-r.ensures.sound.known)
+loop-i-preserved c =
+    let l = c.loop-i in
+    let a = c.args in
+    let m = mem_of l.memory in
+    let n = mem_of c.add.new.memory in
+    let h = c.add.new.self.head in
+    let room = length a.memory.now.scratch.now in
+    let end = get_or a.ends.now l.i 0 in
+    let state = between a.bytes.now l.start end in
+    let added : AddPost l.fitted.head m room state c.answer_of.result h n =
+    subst (λ (k : ℕ). AddPost l.fitted.head m k state c.answer_of.result h n) l.invariant.same.scratch_length
+    (subst (λ (k : ℕ). AddPost l.fitted.head m (length l.memory.scratch.now) state k h n) (sym c.answer_of.ensures) c.add.ensures.post.added) in
+    record {
+      folding =
+          fold_turn a.a (mem_of a.memory.now) room a.bytes.now a.ends.now a.answers.now l.start l.i l.fitted.head m l.answers l.invariant.folding end c.loop-i-test.true refl
+          c.answer_of.result h n added;
+      same = lent_after l.invariant.same c.add.ensures.same;
+      cells = length-set l.answers l.i c.answer_of.result ∙ l.invariant.cells;
+      known = c.add.ensures.post.sound.known;
+    }
 
-pub returns : goal.returns
-returns c = let m : Mem = mem c.args.registers.now c.args.sparse.now c.args.pending.now in let l = c.loop-i in
-    fold_end c.args.a m (length c.args.scratch.now) c.args.bytes.now c.args.ends.now c.args.answers.now l.start l.i l.head (mem l.registers l.sparse l.pending) l.answers l.invariant.0 c.loop-i-test.false
+pub returns-clause-folded : goal.returns-clause-folded
+returns-clause-folded c =
+    let l = c.loop-i in
+    fold_end c.args.a (mem_of c.args.memory.now) (length c.args.memory.now.scratch.now) c.args.bytes.now c.args.ends.now c.args.answers.now l.start l.i l.fitted.head
+    (mem_of l.memory) l.answers l.invariant.folding c.loop-i-test.false

@@ -1,20 +1,20 @@
 -- The loop over the states: each turn adds one call to those before it.
 use Prim.Native.Nat.{◌-◌}
 use mathlib.Core.Path.{◌≡◌}
-use lib.ListN.{length, take}
-use Rattle.rollup.specs.Accumulator.{mem}
+use lib.ListN.{length}
+use Rattle.rollup.specs.Accumulator.{kept_of}
+use Rattle.rollup.specs.Lent.{mem_of, SameLent}
 use Rattle.rollup.specs.Stages.{KnownDistinct}
 use Rattle.capi.proofs.FoldLaws.{Folding}
 use Rattle.capi.proofs.folding.fold_states.Given as goal
 
 abbrev pub invariant-loop-i : goal.invariant-loop-i
-invariant-loop-i l = Folding l.initial.head (mem l.initial.registers l.initial.sparse l.initial.pending) (length l.initial.scratch) l.bytes l.ends l.initial.answers l.start l.i l.head (mem l.registers l.sparse l.pending) l.answers
-    × (length l.registers ≡ length l.initial.registers)
-    × (length l.sparse ≡ length l.initial.sparse)
-    × (length l.pending ≡ length l.initial.pending)
-    × (length l.scratch ≡ length l.initial.scratch)
-    × (length l.answers ≡ length l.initial.answers)
-    × KnownDistinct l.distinct l.head.precision l.head.sparse_precision (take l.head.sparse_len l.sparse)
+invariant-loop-i l = record {
+  folding : Folding l.initial.fitted.head (mem_of l.initial.memory) (length l.initial.memory.scratch.now) l.bytes l.ends l.initial.answers l.start l.i l.fitted.head (mem_of l.memory) l.answers;
+  same : SameLent l.initial.memory l.memory;
+  cells : length l.answers ≡ length l.initial.answers;
+  known : KnownDistinct l.fitted.distinct l.fitted.head.precision l.fitted.head.sparse_precision (kept_of l.fitted.head (mem_of l.memory));
+}
 
 abbrev pub decreases-loop-i : goal.decreases-loop-i
 decreases-loop-i l = length l.ends - l.i

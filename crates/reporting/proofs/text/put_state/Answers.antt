@@ -1,27 +1,48 @@
 -- `put_state` meets its contract: the bytes in hexadecimal with a newline behind them, or a number.
-use Prim.Native.Nat.{◌-◌}
-use mathlib.Core.Path.{sym}
+use Prim.Native.Nat.{ℕ, ◌-◌}
+use mathlib.Core.Path.{refl, sym, ap, ◌∙◌}
 use native.Mathlib.Omega.{arith}
 use lib.ListN.{length, take}
 use lib.Seq.{length-take-le}
 use borrow.Rule.Slice.PartMut.{mid_len}
+use Rattle.std.proofs.Common.{◌≡◌, ◌≤◌, Result}
 use Rattle.wire.proofs.EncodingLaws.{put_same}
+use Rattle.rollup.specs.declared.refusal.Refusal.{Refusal}
+use Rattle.rollup.specs.Refusals.{answer_of, length_of}
+use Rattle.rollup.proofs.RefusalLaws.{number_some}
+use Rattle.reporting.specs.Text.{state_text}
 use Rattle.reporting.proofs.TextLaws.{state_refused, state_written, hex_room, hex_put}
 use Rattle.reporting.proofs.text.put_state.Goals as goal
 
-pub returns-then-written-ne0 : goal.returns-then-written-ne0
-returns-then-written-ne0 c = put_same (state_refused (take c.args.written.len c.args.out.now) c.if-written-ne0.true) c.put_number.ensures
-
 pub slice_bounds-hex-end : goal.slice_bounds-hex-end
-slice_bounds-hex-end c = sym (length-take-le c.args.written.len c.args.out.now c.requires.0)
+slice_bounds-hex-end c =
+    let h : c.in-Ok.len ≤ length c.args.out.now = omega (arith, ap length_of c.in-Ok.is, c.requires.0) in
+    sym (length-take-le c.in-Ok.len c.args.out.now h)
 
 pub hex-requires : goal.hex-requires
-hex-requires c = omega (arith, length-take-le c.args.written.len c.args.out.now c.requires.0, mid_len c.args.at (length c.args.text.now) c.args.text.now (omega arith), c.requires.1)
+hex-requires c =
+    let e = ap length_of c.in-Ok.is in
+    let h : c.in-Ok.len ≤ length c.args.out.now = omega (arith, e, c.requires.0) in
+    omega (arith, length-take-le c.in-Ok.len c.args.out.now h, mid_len c.args.at (length c.args.text.now) c.args.text.now (omega arith), c.requires.1, e)
 
 pub bounds-text-end : goal.bounds-text-end
-bounds-text-end c = omega (arith, length-take-le c.args.written.len c.args.out.now c.requires.0, hex_room c.hex.ensures, c.requires.1)
+bounds-text-end c =
+    let e = ap length_of c.in-Ok.is in
+    let h : c.in-Ok.len ≤ length c.args.out.now = omega (arith, e, c.requires.0) in
+    omega (arith, length-take-le c.in-Ok.len c.args.out.now h, hex_room c.hex.ensures, c.requires.1, e)
 
-pub returns : goal.returns
-returns c = let t = c.args.text.now in
-    let s = take c.args.written.len c.args.out.now in
-    put_same (state_written s c.if-written-ne0.false) (hex_put t c.hex.new.out s c.args.at c.hex.result (length t - c.args.at) (omega arith) (omega (arith, length-take-le c.args.written.len c.args.out.now c.requires.0)) c.hex.ensures)
+pub returns-in-Ok : goal.returns-in-Ok
+returns-in-Ok c =
+    let t = c.args.text.now in
+    let s = take c.in-Ok.len c.args.out.now in
+    let e = ap length_of c.in-Ok.is in
+    let h : c.in-Ok.len ≤ length c.args.out.now = omega (arith, e, c.requires.0) in
+    put_same (state_written s refl ∙ ap (λ (w : Result ℕ Refusal). state_text (answer_of w) (take (length_of w) c.args.out.now)) (sym c.in-Ok.is))
+    (hex_put t c.hex.new.out s c.args.at c.hex.result (length t - c.args.at) (omega arith) (omega (arith, length-take-le c.in-Ok.len c.args.out.now h, e, c.requires.1)) c.hex.ensures)
+
+pub returns-in-Err : goal.returns-in-Err
+returns-in-Err c =
+    put_same
+    (state_refused (take 0 c.args.out.now) (λ (z : c.number.result ≡ 0). number_some c.in-Err.e (sym c.number.ensures ∙ z))
+    ∙ ap (λ (n : ℕ). state_text n (take 0 c.args.out.now)) c.number.ensures
+    ∙ ap (λ (w : Result ℕ Refusal). state_text (answer_of w) (take (length_of w) c.args.out.now)) (sym c.in-Err.is)) c.put_number.ensures
