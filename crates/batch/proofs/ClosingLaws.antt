@@ -1,11 +1,11 @@
 -- The closing numbers: the registers of a list, set in lent bytes and counted, and the count by the form.
-use Prim.Native.Nat.{ℕ, ◌<◌, ◌≤◌}
-use mathlib.Core.Path.{◌≡◌, refl, sym, ap, ◌∙◌, subst}
-use mathlib.Core.List.{List, [], ◌++◌}
+use Prim.Native.Nat.{ℕ, ◌≤◌}
+use mathlib.Core.Path.{◌≡◌, refl, sym, ap, ◌∙◌}
+use mathlib.Core.List.{List, []}
 use mathlib.Core.Bool.{Bool, true, false, cond, true≢false}
 use native.Mathlib.Omega.{arith}
 use lib.ListN.{length, take, drop, length-take, length-append}
-use borrow.Author.Tests.{le-leb, lt-leb}
+use borrow.Author.Tests.{le-leb}
 use Rattle.std.specs.Prelude.{Option, Some, None}
 use Rattle.lists.specs.Values.{Pair}
 use Rattle.lists.specs.Lists.{all_valid}
@@ -22,7 +22,7 @@ use Rattle.rollup.specs.Calls.{Unmoved, list_registers, rollup_registers}
 use Rattle.rollup.proofs.FitLaws.{fit_sparse}
 use Rattle.rollup.proofs.ViewLaws.{fresh_fits}
 use Rattle.rollup.proofs.SpaceLaws.{steps_spacious}
-use Rattle.rollup.proofs.AgreementLaws.{list_row, registers_list, registers_dense}
+use Rattle.rollup.proofs.AgreementLaws.{list_row}
 use Rattle.batch.specs.declared.closing.Report.{Report}
 use Rattle.batch.specs.Chain.{states_of}
 use Rattle.batch.specs.Batch.{states_for}

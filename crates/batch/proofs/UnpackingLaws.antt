@@ -1,16 +1,14 @@
 -- Walking a batch: the indices so far, and what is left of the chain, are the chain's. One law for a turn, and one for each way that the walk ends; and the state
 -- of a record.
-use Prim.Native.Nat.{ℕ, suc, ◌+◌, ◌-◌, ◌<◌, ◌≤◌}
-use mathlib.Core.Path.{◌≡◌, refl, sym, ap, ◌∙◌, subst}
+use Prim.Native.Nat.{ℕ, suc, ◌+◌, ◌<◌, ◌≤◌}
+use mathlib.Core.Path.{◌≡◌, sym, ap, ◌∙◌, subst}
 use mathlib.Core.List.{List, [], ◌∷◌, ◌++◌}
-use mathlib.Core.Bool.{true, false}
 use native.Mathlib.Omega.{arith}
-use lib.ListN.{length, take, drop, set, length-set, length-take, length-drop, drop_of_length-le}
-use lib.Seq.{take-suc-set, length-take-le, take-nil, take_all}
+use lib.ListN.{length, take, drop, set, length-set, length-take, length-drop}
+use lib.Seq.{take-suc-set, length-take-le}
 use Rattle.std.specs.Prelude.{⊤, Result}
-use Rattle.lists.proofs.MergingLaws.{rest_all}
 use Rattle.batch.specs.declared.chain.ChainError.{ChainError}
-use Rattle.batch.specs.Chain.{length_at, state_at, Chain, ends, onto, chain_of}
+use Rattle.batch.specs.Chain.{length_at, state_at, Chain, ends, onto}
 use Rattle.batch.specs.Unpacking.{WalkedPost}
 use Rattle.batch.proofs.ChainLaws.{Walk, walk_all, walk_ending, walk_few, walk_turn, untouched_next}
 

@@ -1,10 +1,10 @@
--- The count by the form, and whether the lent bytes suffice for a list's registers.
+-- What the counts ask of the memory, by the form.
 use Prim.Native.Nat.{ℕ, ◌≤◌}
 use mathlib.Core.Path.{subst}
 use lib.ListN.{length}
 use Rattle.rollup.specs.Lent.{mem_of}
 use Rattle.rollup.proofs.FitLaws.{fit_sparse, fit_dense}
-use Rattle.batch.proofs.ClosingLaws.{list_pre, count_none, count_dense, count_short, count_list}
+use Rattle.batch.proofs.ClosingLaws.{list_pre}
 use Rattle.batch.proofs.closing.not_zero.Goals as goal
 
 pub register_bytes-requires : goal.register_bytes-requires
