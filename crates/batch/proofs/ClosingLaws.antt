@@ -1,11 +1,11 @@
 -- The closing numbers: the registers of a list, set in lent bytes and counted, and the count by the form.
-use Prim.Native.Nat.{ℕ, ◌<◌, ◌≤◌}
-use mathlib.Core.Path.{◌≡◌, refl, sym, ap, ◌∙◌, subst}
-use mathlib.Core.List.{List, [], ◌++◌}
+use Prim.Native.Nat.{ℕ, ◌≤◌}
+use mathlib.Core.Path.{◌≡◌, refl, sym, ap, ◌∙◌}
+use mathlib.Core.List.{List, []}
 use mathlib.Core.Bool.{Bool, true, false, cond, true≢false}
 use native.Mathlib.Omega.{arith}
 use lib.ListN.{length, take, drop, length-take, length-append}
-use borrow.Author.Tests.{le-leb, lt-leb}
+use borrow.Author.Tests.{le-leb}
 use Rattle.std.specs.Prelude.{Option, Some, None}
 use Rattle.lists.specs.Values.{Pair}
 use Rattle.lists.specs.Lists.{all_valid}
@@ -22,7 +22,7 @@ use Rattle.rollup.specs.Calls.{Unmoved, list_registers, rollup_registers}
 use Rattle.rollup.proofs.FitLaws.{fit_sparse}
 use Rattle.rollup.proofs.ViewLaws.{fresh_fits}
 use Rattle.rollup.proofs.SpaceLaws.{steps_spacious}
-use Rattle.rollup.proofs.AgreementLaws.{list_row, registers_list, registers_dense}
+use Rattle.rollup.proofs.AgreementLaws.{list_row}
 use Rattle.batch.specs.declared.closing.Report.{Report}
 use Rattle.batch.specs.Chain.{states_of}
 use Rattle.batch.specs.Batch.{states_for}
@@ -46,38 +46,6 @@ pub list_pre : (a : Accumulator) (m : Mem) (spare : List ℕ) → fits a m ≡ t
 list_pre a m spare fit form room =
     let f = fit_sparse a m fit form in
     record { pair = f.pair; kept_in = f.kept_in; waiting_in = f.waiting_in; kept_valid = f.kept_valid; waiting_valid = f.waiting_valid; room = room }
-
--- The count, by the form.
-module _ (a : Accumulator) (m : Mem) (space : ℕ) where
-  at_form : (f : Form) (r : Option ℕ) → a.form ≡ f → r ≡ count_for f a m space → r ≡ count_for a.form a m space
-  at_form f r e h = h ∙ ap (λ (g : Form). count_for g a m space) (sym e)
-
-  pub count_none : a.form ≡ Unstarted → Some 0 ≡ count_for a.form a m space
-  unfolding count_for
-  count_none e = at_form Unstarted (Some 0) e refl
-
-  pub count_dense : (n : ℕ) → a.form ≡ Dense → n ≡ not_zero_count (registers_of a.precision m.registers) → Some n ≡ count_for a.form a m space
-  unfolding count_for
-  count_dense n e h = at_form Dense (Some n) e (ap Some (h ∙ ap not_zero_count (sym (registers_dense a m))))
-
-  pub count_short : (n : ℕ) → a.form ≡ Sparse → n ≡ register_bytes a.precision → space < n → None ≡ count_for a.form a m space
-  unfolding count_for
-  count_short n e f h =
-      at_form Sparse None e
-      (sym
-      (ap (λ (t : Bool). cond t (Some (not_zero_count (rollup_registers Sparse a m))) None)
-      (lt-leb (register_bytes a.precision) space (subst (λ (k : ℕ). space < k) f h))))
-
-  pub count_list : (n k : ℕ) → a.form ≡ Sparse → n ≡ register_bytes a.precision → n ≤ space
-      → k ≡ not_zero_count (list_registers a.precision a.sparse_precision (take a.sparse_len m.sparse ++ take a.pending_len m.pending))
-      → Some k ≡ count_for a.form a m space
-  unfolding count_for
-  count_list n k e f h g =
-      at_form Sparse (Some k) e
-      (ap Some (g ∙ ap not_zero_count (sym (registers_list a m)))
-      ∙ sym
-      (ap (λ (t : Bool). cond t (Some (not_zero_count (rollup_registers Sparse a m))) None)
-      (le-leb (register_bytes a.precision) space (subst (λ (x : ℕ). x ≤ space) f h))))
 
 -- What a report says of the memory that was lent: no more records than cells, and no more bytes written than the output has.
 pub few_records : {batch : List ℕ} {first : Mem} {room : ℕ} {old : List ℕ} {space : ℕ} {out : List ℕ} {r : Report} {m : Mem} {answers after : List ℕ}

@@ -1,13 +1,12 @@
 -- Rolling up a batch: the calls so far are a run over the states so far, and what is left of the chain completes them. One law for the start, one for a turn, and
 -- one for each way that the loop ends.
-use Prim.Native.Nat.{ℕ, zero, suc, ◌+◌, ◌-◌, ◌*◌, ◌^◌, ◌<◌, ◌≤◌}
+use Prim.Native.Nat.{ℕ, suc, ◌+◌, ◌<◌, ◌≤◌}
 use mathlib.Core.Path.{◌≡◌, refl, sym, ap, ap₂, ◌∙◌, subst}
-use mathlib.Core.List.{List, [], ◌∷◌, ◌++◌, append_assoc, append-nil, map, map-append}
-use mathlib.Core.Bool.{Bool, true, false, cond, ◌&&◌, true≢false}
+use mathlib.Core.List.{List, [], ◌∷◌, ◌++◌, append_assoc, map, map-append}
+use mathlib.Core.Bool.{Bool, true, false, cond, true≢false}
 use native.Mathlib.Omega.{arith}
-use lib.Dec.{ltb, leb, eqb}
-use lib.ListN.{length, get_or, take, drop, set, length-set, length-append, length-map}
-use lib.Seq.{take-suc-set, drop-set-lt, drop-drop, take_all, take_at, length-take-le}
+use lib.ListN.{length, take, drop, set, length-set, length-append, length-map}
+use lib.Seq.{take-suc-set, take_all, take_at, length-take-le}
 use borrow.Author.Tests.{le-leb, lt-leb}
 use Rattle.std.specs.Prelude.{⊤, Result, Ok, Err}
 use Rattle.rollup.specs.declared.accumulator.Accumulator.{Accumulator}

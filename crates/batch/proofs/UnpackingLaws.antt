@@ -1,16 +1,14 @@
 -- Walking a batch: the indices so far, and what is left of the chain, are the chain's. One law for a turn, and one for each way that the walk ends; and the state
 -- of a record.
-use Prim.Native.Nat.{ℕ, suc, ◌+◌, ◌-◌, ◌<◌, ◌≤◌}
-use mathlib.Core.Path.{◌≡◌, refl, sym, ap, ◌∙◌, subst}
+use Prim.Native.Nat.{ℕ, suc, ◌+◌, ◌<◌, ◌≤◌}
+use mathlib.Core.Path.{◌≡◌, sym, ap, ◌∙◌, subst}
 use mathlib.Core.List.{List, [], ◌∷◌, ◌++◌}
-use mathlib.Core.Bool.{true, false}
 use native.Mathlib.Omega.{arith}
-use lib.ListN.{length, take, drop, set, length-set, length-take, length-drop, drop_of_length-le}
-use lib.Seq.{take-suc-set, length-take-le, take-nil, take_all}
+use lib.ListN.{length, take, drop, set, length-set, length-take, length-drop}
+use lib.Seq.{take-suc-set, length-take-le}
 use Rattle.std.specs.Prelude.{⊤, Result}
-use Rattle.lists.proofs.MergingLaws.{rest_all}
 use Rattle.batch.specs.declared.chain.ChainError.{ChainError}
-use Rattle.batch.specs.Chain.{length_at, state_at, Chain, ends, onto, chain_of}
+use Rattle.batch.specs.Chain.{length_at, state_at, Chain, ends, onto}
 use Rattle.batch.specs.Unpacking.{WalkedPost}
 use Rattle.batch.proofs.ChainLaws.{Walk, walk_all, walk_ending, walk_few, walk_turn, untouched_next}
 
@@ -47,16 +45,6 @@ module _ {batch old : List ℕ} {rest : Chain} {k : ℕ} {indices : List ℕ} (g
       }
 
 -- ---- a state
-
-pub state_none : (b : List ℕ) (at : ℕ) → length b ≤ at + 8 → take 0 b ≡ state_at b at
-state_none b at h = sym (ap (take (length_at b at)) (drop_of_length-le b h) ∙ take-nil (length_at b at))
-
-pub state_cut : (b : List ℕ) (at n : ℕ) → length b - (at + 8) < n → n ≡ length_at b at → take (length b - (at + 8)) (drop (at + 8) b) ≡ state_at b at
-state_cut b at n h e =
-    rest_all b (at + 8) ∙ sym (take_all (length_at b at) (drop (at + 8) b) (omega (arith, length-drop (at + 8) b)))
-
-pub state_whole : (b : List ℕ) (at n : ℕ) → n ≡ length_at b at → take (at + 8 + n - (at + 8)) (drop (at + 8) b) ≡ state_at b at
-state_whole b at n e = ap (λ (k : ℕ). take k (drop (at + 8) b)) ((let z : at + 8 + n - (at + 8) ≡ n = omega arith in z) ∙ e)
 
 pub state_short : (b s : List ℕ) (at : ℕ) → s ≡ state_at b at → length s ≤ length b
 state_short b s at e =

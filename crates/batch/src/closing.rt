@@ -37,6 +37,7 @@ fn list_not_zero(a: Accumulator, sparse: &[u32], pending: &[u32], spare: &mut [u
     registers::count_not_zero(&spare[..], enc.normal_precision)
 }
 
+#[tactic(auto, using(rollup::proofs::AgreementLaws::registers_list, rollup::proofs::AgreementLaws::registers_dense), unfolding(crate::specs::Closing::count_for))]
 fn not_zero(a: Accumulator, memory: &Memory, spare: &mut [u8]) -> Option<usize>
     requires { fits a (mem_of memory.now) ≡ true }
     ensures { result ≡ count_for a.form a (mem_of memory.now) (length spare.old) }

@@ -1,17 +1,14 @@
--- The count by the form, and whether the lent bytes suffice for a list's registers.
+-- What the counts ask of the memory, by the form.
 use Prim.Native.Nat.{ℕ, ◌≤◌}
 use mathlib.Core.Path.{subst}
 use lib.ListN.{length}
 use Rattle.rollup.specs.Lent.{mem_of}
 use Rattle.rollup.proofs.FitLaws.{fit_sparse, fit_dense}
-use Rattle.batch.proofs.ClosingLaws.{list_pre, count_none, count_dense, count_short, count_list}
+use Rattle.batch.proofs.ClosingLaws.{list_pre}
 use Rattle.batch.proofs.closing.not_zero.Goals as goal
 
 pub register_bytes-requires : goal.register_bytes-requires
 register_bytes-requires c = (fit_sparse c.args.a (mem_of c.args.memory.now) c.requires c.in-Sparse.is).pair.high
-
-pub returns-in-Sparse : goal.returns-in-Sparse
-returns-in-Sparse c = count_short c.args.a (mem_of c.args.memory.now) (length c.args.spare.now) c.register_bytes.result c.in-Sparse.is c.register_bytes.ensures.0 c.if-spare-register_bytes.true
 
 pub list_not_zero-requires : goal.list_not_zero-requires
 list_not_zero-requires c = list_pre c.args.a (mem_of c.args.memory.now) c.args.spare.now c.requires c.in-Sparse.is (subst (λ (k : ℕ). k ≤ length c.args.spare.now) c.register_bytes.ensures.0 c.if-spare-register_bytes.false)
@@ -20,12 +17,3 @@ pub count_not_zero-requires : goal.count_not_zero-requires
 count_not_zero-requires c =
     let f = fit_dense c.args.a (mem_of c.args.memory.now) c.requires c.in-Dense.is in
     record { high = f.high; room = f.room }
-
-pub returns-in-Unstarted : goal.returns-in-Unstarted
-returns-in-Unstarted c = count_none c.args.a (mem_of c.args.memory.now) (length c.args.spare.now) c.in-Unstarted.is
-
-pub returns-in-Sparse-2 : goal.returns-in-Sparse-2
-returns-in-Sparse-2 c = count_list c.args.a (mem_of c.args.memory.now) (length c.args.spare.now) c.register_bytes.result c.list_not_zero.result c.in-Sparse.is c.register_bytes.ensures.0 c.if-spare-register_bytes.false c.list_not_zero.ensures
-
-pub returns-in-Dense : goal.returns-in-Dense
-returns-in-Dense c = count_dense c.args.a (mem_of c.args.memory.now) (length c.args.spare.now) c.count_not_zero.result c.in-Dense.is c.count_not_zero.ensures

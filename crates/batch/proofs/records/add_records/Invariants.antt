@@ -12,5 +12,5 @@ invariant-loop-record l = record {
   going : Going l.batch (mem_of l.initial.memory) (length l.initial.memory.scratch.now) (left l.record-iterator) l.records l.fitted.head (mem_of l.memory) l.initial.answers l.answers;
   batch : l.record-iterator.batch.now ≡ l.batch;
   same : SameLent l.initial.memory l.memory;
-  known : KnownDistinct l.fitted.distinct l.fitted.head.precision l.fitted.head.sparse_precision (kept_of l.fitted.head (mem_of l.memory))
+  known : KnownDistinct l.fitted.distinct l.fitted.head.precision l.fitted.head.sparse_precision (kept_of l.fitted.head (mem_of l.memory));
 }

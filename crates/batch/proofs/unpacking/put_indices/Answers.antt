@@ -1,5 +1,5 @@
 -- A turn puts an index, by what `next` gave.
-use Rattle.std.proofs.Common.{Some, subst, sym, ◌∙◌, length, ap, ◌≤◌, ℕ}
+use Rattle.std.proofs.Common.{Some, subst, sym, ◌≤◌, ℕ}
 use Rattle.batch.specs.Records.{GivesRecord}
 use Rattle.batch.proofs.UnpackingLaws.{room_left, walking_turn}
 use Rattle.batch.proofs.unpacking.put_indices.Goals as goal

@@ -1,5 +1,4 @@
 -- The indices so far, and what is left of the chain, are the chain's.
-use Rattle.std.proofs.Common.{◌≡◌, length}
 use Rattle.batch.specs.Records.{left}
 use Rattle.batch.proofs.UnpackingLaws.{Walking}
 use Rattle.batch.proofs.unpacking.put_indices.Given as goal

@@ -13,9 +13,10 @@ returns-then-index-eq0-clause-steps c =
 
 pub returns-then-not-is_record-clause-steps : goal.returns-then-not-is_record-clause-steps
 returns-then-not-is_record-clause-steps c =
-    let s = c.args.self.now in
-    (chain_bad (length s.batch.now) s.batch.now s.before s.next c.if-index-eq0.false (sym c.is_record.ensures ∙ c.if-not-is_record.true),
-    chain_end (suc (length s.batch.now)) s.batch.now s.before 0 refl)
+    let s = c.args.self.now in (
+      chain_bad (length s.batch.now) s.batch.now s.before s.next c.if-index-eq0.false (sym c.is_record.ensures ∙ c.if-not-is_record.true),
+      chain_end (suc (length s.batch.now)) s.batch.now s.before 0 refl,
+    )
 
 pub returns-then-not-is_record-clause-goes : goal.returns-then-not-is_record-clause-goes
 returns-then-not-is_record-clause-goes c =
@@ -41,10 +42,11 @@ slice_bounds-result-end c =
 
 pub returns-clause-steps : goal.returns-clause-steps
 returns-clause-steps c =
-    let s = c.args.self.now in
-    (left_next s.batch.now s.before s.next c.word_at-self.result c.if-index-eq0.false (sym c.is_record.ensures ∙ c.if-not-is_record.false) c.word_at-self.ensures,
-    ap (λ (n : ℕ). take n (drop (s.next + 8) s.batch.now)) (let e : s.next + 8 + c.word_at.result - (s.next + 8) ≡ length_at s.batch.now s.next = omega (arith, c.word_at.ensures) in e),
-    refl)
+    let s = c.args.self.now in (
+      left_next s.batch.now s.before s.next c.word_at-self.result c.if-index-eq0.false (sym c.is_record.ensures ∙ c.if-not-is_record.false) c.word_at-self.ensures,
+      ap (λ (n : ℕ). take n (drop (s.next + 8) s.batch.now)) (let e : s.next + 8 + c.word_at.result - (s.next + 8) ≡ length_at s.batch.now s.next = omega (arith, c.word_at.ensures) in e),
+      refl,
+    )
 
 pub returns-clause-goes : goal.returns-clause-goes
 returns-clause-goes c =
