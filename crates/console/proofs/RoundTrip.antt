@@ -19,7 +19,7 @@ unfolding digit_of
 digit_letter b d e l h =
     rw (le-ltb b 48 (omega arith), le-ltb b 58 (omega arith), le-ltb b 97 (omega arith), lt-ltb b 103 (omega arith)) (ap Some (omega arith))
 
-digit_glyph : (d : ℕ) → d < 16 → digit_of (hex_digit_ascii d) ≡ Some d
+pub digit_glyph : (d : ℕ) → d < 16 → digit_of (hex_digit_ascii d) ≡ Some d
 digit_glyph d h =
     ⊎_elim
     (λ (l : d < 10). rw (lt-ltb d 10 l) (digit_figure (48 + d) d refl l))
@@ -30,12 +30,16 @@ abbrev pub AllBytes : List ℕ → Type 0
 AllBytes [] = Unit
 AllBytes (b ∷ l) = (b < 256) × AllBytes l
 
-pub hex_there_and_back : (l : List ℕ) → AllBytes l → hex_of (hex_text l) ≡ Some l
+-- Any digits whose values are those of the glyphs read it back.
+pub pairs_there_and_back : (value : ℕ → Option ℕ) → ((d : ℕ) → d < 16 → value (hex_digit_ascii d) ≡ Some d) → (l : List ℕ) → AllBytes l → pairs_of value (hex_text l) ≡ Some l
 unfolding pairs_of hex_text
-hex_there_and_back [] h = refl
-hex_there_and_back (b ∷ l) h =
+pairs_there_and_back value glyph [] h = refl
+pairs_there_and_back value glyph (b ∷ l) h =
     let b256 : b < 256 = h.0 in
     let whole : b / 16 * 16 + b % 16 ≡ b = omega arith in
-    ap₂ (λ (x y : Option ℕ). byte_then x y (hex_of (hex_text l))) (digit_glyph (b / 16) (omega arith)) (digit_glyph (b % 16) (omega arith))
-    ∙ ap (byte_then (Some (b / 16)) (Some (b % 16))) (hex_there_and_back l h.1)
+    ap₂ (λ (x y : Option ℕ). byte_then x y (pairs_of value (hex_text l))) (glyph (b / 16) (omega arith)) (glyph (b % 16) (omega arith))
+    ∙ ap (byte_then (Some (b / 16)) (Some (b % 16))) (pairs_there_and_back value glyph l h.1)
     ∙ ap (λ (x : ℕ). Some (x ∷ l)) whole
+
+pub hex_there_and_back : (l : List ℕ) → AllBytes l → hex_of (hex_text l) ≡ Some l
+hex_there_and_back = pairs_there_and_back digit_of digit_glyph
