@@ -3,7 +3,7 @@ use Rattle.std.specs.Prelude.{◌≡◌, refl, [], ◌∷◌, Bool, true, ◌&&�
 use Rattle.wire.specs.Examples.{same_bytes}
 use Rattle.console.specs.Output.{hex_text}
 use Rattle.batch.specs.declared.records.Ending.TheVariants.{Whole, Refused}
-use Rattle.console.specs.Numbers.{figures}
+use Rattle.std.specs.Fmt.{digits}
 use Rattle.reporting.specs.Numbers.{signed_text, number_text}
 use Rattle.reporting.specs.Text.{answer_line, answer_lines, ending_text, numbers_line, state_text}
 
@@ -31,5 +31,5 @@ signs =
     && same_bytes (signed_text (2 ^ 63 - 1)) (57 ∷ 50 ∷ 50 ∷ 51 ∷ 51 ∷ 55 ∷ 50 ∷ 48 ∷ 51 ∷ 54 ∷ 56 ∷ 53 ∷ 52 ∷ 55 ∷ 55 ∷ 53 ∷ 56 ∷ 48 ∷ 55 ∷ [])
 
 pub examples_hold : (b1_lines && other_lines && signs) ≡ true
-unfolding figures signed_text number_text answer_line answer_lines ending_text numbers_line state_text hex_text
+unfolding digits signed_text number_text answer_line answer_lines ending_text numbers_line state_text hex_text
 examples_hold = refl
