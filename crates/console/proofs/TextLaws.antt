@@ -9,7 +9,7 @@ use lib.ListN.{length, set, take, drop, get_or, length-drop}
 use lib.Seq.{length-take-le}
 use Rattle.std.proofs.lemmas.List.{length-take}
 use borrow.Author.Tests.{le-ltb, ltb-false, ne_eqb}
-use Rattle.std.specs.Prelude.{Option, Some, None, is_some}
+use Rattle.std.specs.Prelude.{Option, Some, None, is_some, IfSome}
 use Rattle.std.specs.Counts.{IsPrefixLen}
 use Rattle.console.specs.Input.{up_to, PieceOf, decimal_of, below64, onto, PairsPost}
 use Rattle.console.specs.Text.{words_from, below32, value_then, values_in, list_in, ListedPost}
@@ -20,11 +20,13 @@ use Rattle.console.proofs.InputLaws.{onto_nothing, onto_stored}
 pub front : (n : ℕ) (out : List ℕ) → n ≤ length out → IsPrefixLen n out
 front n out h = (h, sym (length-take-le n out h))
 
-pub counted : (value : ℕ → Option ℕ) (word out after : List ℕ) (r : Option ℕ) (n : ℕ) → r ≡ Some n → PairsPost value word out r after → IsPrefixLen n after
-counted value word out after r n e p = (subst (λ (x : Option ℕ). PairsPost value word out x after) e p).2
+pub pairs_inside : (value : ℕ → Option ℕ) (word out after : List ℕ) (r : Option ℕ) → PairsPost value word out r after → IfSome r (λ n. n ≤ length after)
+pairs_inside value word out after None p = tt
+pairs_inside value word out after (Some n) p = p.2.0
 
-pub listed : (l : Option (List ℕ)) (word before out : List ℕ) (r : Option ℕ) (n : ℕ) → r ≡ Some n → ListedPost l word before r out → IsPrefixLen n out
-listed l word before out r n e p = (subst (λ (x : Option ℕ). ListedPost l word before x out) e p).2
+pub listed_inside : (l : Option (List ℕ)) (word before out : List ℕ) (r : Option ℕ) → ListedPost l word before r out → IfSome r (λ n. n ≤ length out)
+listed_inside l word before out None p = tt
+listed_inside l word before out (Some n) p = p.2.0
 
 -- ---- words
 

@@ -1,5 +1,5 @@
 // Reading a stream into a buffer, then lines, words, numbers and byte strings.
-ghost use Rattle.std.specs.Prelude.{◌≡◌, ◌<◌, ◌+◌, ℕ, Option, length, take, drop, MatchOption, IfSome, ⊤};
+ghost use Rattle.std.specs.Prelude.{◌≡◌, ◌<◌, ◌≤◌, ◌+◌, ℕ, Option, length, take, drop, MatchOption, IfSome, ⊤};
 ghost use Rattle.std.specs.Iterator.{at_most};
 ghost use Rattle.console.specs.Input.{reading_of, ReadPost, CasesPost, up_to, PieceOf, digit_of, decimal_of, below64, Digits, Gives, PairsPost};
 
@@ -178,7 +178,8 @@ pub fn read_pairs<F: Fn(u8) -> Option<u8> + Drop>(
 
 // A byte string in hexadecimal.
 pub fn read_bytes(word: &[u8], out: &mut [u8]) -> Option<usize>
-    ensures { PairsPost digit_of word.now out.old result out.new }
+    ensures post { PairsPost digit_of word.now out.old result out.new }
+    ensures inside { IfSome result (λ n. n ≤ length out.new) }
 {
     read_pairs(word, digit, out)
 }

@@ -1,5 +1,6 @@
 // What the programs that replay cases print, by `fmt`, of which no contract speaks.
-use std::fmt;
+use std::io::Print;
+use std::{fmt, io};
 
 // Bytes in lowercase hexadecimal.
 #[derive(Clone, Copy)]
@@ -14,11 +15,22 @@ impl fmt::Display for Hex<'_> {
     }
 }
 
+// The signed number of these 32 bits.
+#[derive(Clone, Copy)]
+pub struct Int32(pub u32);
+
+impl fmt::Display for Int32 {
+    fn fmt<W: fmt::Write>(&self, f: &mut fmt::Formatter<W>) -> fmt::Result {
+        let v = self.0.cast_signed();
+        write!(f, "{v}")
+    }
+}
+
 // The signed number of these 64 bits.
 #[derive(Clone, Copy)]
-pub struct Signed(pub u64);
+pub struct Int64(pub u64);
 
-impl fmt::Display for Signed {
+impl fmt::Display for Int64 {
     fn fmt<W: fmt::Write>(&self, f: &mut fmt::Formatter<W>) -> fmt::Result {
         let v = self.0.cast_signed();
         write!(f, "{v}")
@@ -40,4 +52,15 @@ impl fmt::Display for List<'_> {
         }
         Ok(())
     }
+}
+
+// Bytes as they are, and a newline: what is printed of a remark.
+pub fn print_line(rt: &impl Print, line: &[u8]) -> io::Result<()> {
+    rt.write_all(line)?;
+    println!(rt; "")
+}
+
+// What is printed of a case that has not the operands that it should have.
+pub fn bad_case(rt: &impl Print) -> io::Result<()> {
+    println!(rt; "bad case")
 }

@@ -1,5 +1,5 @@
 // Reading the operands of a case: words between blanks, decimal numbers, lists of them.
-ghost use Rattle.std.specs.Prelude.{◌≡◌, length, unwrap_or};
+ghost use Rattle.std.specs.Prelude.{◌≡◌, ◌≤◌, length, unwrap_or, IfSome};
 ghost use Rattle.console.specs.Input.{decimal_of, below64};
 ghost use Rattle.console.specs.Text.{word_of, below32, values_in, list_in, ListedPost};
 
@@ -54,7 +54,8 @@ fn read_values(word: &[u8], out: &mut [u32]) -> Option<usize>
 
 // A list: `.` is the empty one. The answer is how many values there are.
 pub fn read_list(word: &[u8], out: &mut [u32]) -> Option<usize>
-    ensures { ListedPost (list_in (length out.old) word.now) word.now out.old result out.new }
+    ensures post { ListedPost (list_in (length out.old) word.now) word.now out.old result out.new }
+    ensures inside { IfSome result (λ n. n ≤ length out.new) }
 {
     match word {
         [] => None,

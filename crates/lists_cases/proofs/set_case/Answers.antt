@@ -4,7 +4,7 @@ use Rattle.lists_cases.proofs.Laws.{can_set, can_set_lower}
 use Rattle.lists_cases.proofs.set_case.Goals as goal
 
 pub set_registers-requires : goal.set_registers-requires
-set_registers-requires c = can_set c.args.enc c.requires c.args.list.now c.args.registers.now c.args.q (sym c.all_valid.ensures ∙ c.if-not-all_valid.false) (c.holds.ensures (c.if-not-holds.false)) c.if-p-q-2.true
+set_registers-requires g c = can_set c.args.enc c.requires c.args.list.now c.args.registers.now c.args.q (sym c.all_valid.ensures ∙ c.if-not-all_valid.false) (c.holds.ensures (c.if-not-holds.false)) c.if-p-q-2.true
 
 pub set_registers_lower-requires : goal.set_registers_lower-requires
-set_registers_lower-requires c = can_set_lower c.args.enc c.requires c.args.list.now c.args.registers.now c.args.q (sym c.all_valid.ensures ∙ c.if-not-all_valid.false) (c.holds.ensures (c.if-not-holds.false)) c.if-q-lt4.false c.if-p-q.false
+set_registers_lower-requires g c = can_set_lower c.args.enc c.requires c.args.list.now c.args.registers.now c.args.q (sym c.all_valid.ensures ∙ c.if-not-all_valid.false) (c.holds.ensures (c.if-not-holds.false)) c.if-q-lt4.false c.if-p-q.false
