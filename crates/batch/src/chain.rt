@@ -1,6 +1,6 @@
 // The chain of a batch: its records, one after the other.
 ghost use Rattle.std.specs.Prelude.{◌≡◌, length, ◌+◌, ◌≤◌};
-ghost use Rattle.batch.specs.Chain.{word_at, is_record, is_batch, ordinal_of};
+ghost use Rattle.batch.specs.Chain.{word_at, is_record, is_batch, error_number, ordinal_of};
 ghost use Rattle.batch.specs.Records.{BeginsPost};
 
 // Why a chain ends before an index of zero. Each has the number of its question.
@@ -13,6 +13,12 @@ pub enum ChainError {
 }
 
 impl ChainError {
+    pub fn number(self) -> u8
+        ensures { result ≡ error_number self }
+    {
+        self as u8
+    }
+
     // The ordinal of the record that could not be had, where so many could. Bytes that are no batch have no record: 0.
     pub fn ordinal(self, records: usize) -> usize
         requires { records ≤ 65536 }

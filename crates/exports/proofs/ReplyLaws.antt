@@ -4,15 +4,17 @@ use mathlib.Core.List.{List, [], ◌++◌}
 use mathlib.Core.Bool.{Bool, true, false, cond, ◌&&◌}
 use Prim.Native.Nat.{ℕ, ◌+◌, ◌-◌, ◌^◌, ◌≤◌, ◌<◌}
 use native.Mathlib.Omega.{arith}
-use lib.Dec.{leb, eqb}
+use lib.Dec.{leb}
 use lib.ListN.{length, length-append}
 use lib.Seq.{sets, length-sets}
 use borrow.Author.Tests.{le-leb, lt-leb, leb-true}
 use Rattle.wire.specs.Varints.{PutPost}
-use Rattle.batch.specs.Chain.{is_batch, Chain, chain_of}
+use Rattle.batch.specs.declared.chain.ChainError.{ChainError}
+use Rattle.batch.specs.declared.chain.ChainError.TheVariants.{NoBatch, Broken}
+use Rattle.batch.specs.Chain.{error_number, ordinal_of, is_batch, Chain, chain_of}
 use Rattle.batch.specs.Packing.{packed}
 use Rattle.batch.proofs.ChainLaws.{chain_is, chain_short}
-use Rattle.std.specs.Prelude.{Result, Ok, Err, decimal}
+use Rattle.std.specs.Prelude.{⊤, Result, Ok, Err, decimal}
 use Rattle.std.specs.Fmt.{digits}
 use Rattle.std.proofs.lemmas.Fmt.{length-decimal-le}
 use Rattle.console.specs.Input.{Stream}
@@ -23,10 +25,10 @@ use Rattle.console.specs.Output.{ascii, Saying, out, err, SaidPost}
 use Rattle.console.proofs.OutputLaws.{said_out, said_err}
 use Rattle.exports.specs.declared.packing.PackError.{PackError}
 use Rattle.exports.specs.declared.unpacking.UnpackError.{UnpackError}
-use Rattle.exports.specs.declared.unpacking.UnpackError.TheVariants.{Broken, TooLong}
+use Rattle.exports.specs.declared.unpacking.UnpackError.TheVariants.{Broken as Cut, TooLong}
 use Rattle.exports.specs.Packing.{packing_of, packed_of, PackedPost}
-use Rattle.exports.specs.Unpacking.{batch_text, unpacked_of, put_of, UnpackedPost}
-use Rattle.exports.specs.Replies.{line_message, packed_says, lines_say, thousands, pack_says, PackReply, broken_at, chain_message, unpacked_says, batch_says, unpack_says, UnpackReply}
+use Rattle.exports.specs.Unpacking.{batch_text, unless_broken, unpacked_of, put_of, UnpackedPost}
+use Rattle.exports.specs.Replies.{line_message, packed_says, lines_say, thousands, pack_says, PackReply, chain_message, unpacked_says, batch_says, unpack_says, UnpackReply}
 use Rattle.exports.proofs.PackLaws.{made_bytes, made_counts}
 
 -- ---- messages
@@ -42,14 +44,18 @@ decimal_short n h = length-decimal-le 20 n (omega arith) (omega arith) h
 pub line_message_short : (line : ℕ) (what : List ℕ) → line < 2 ^ 64 → length (line_message line what) ≤ 31 + length what
 line_message_short line what h = omega (arith, length-append (ascii "pack: line " ++ decimal line) what, length-append (ascii "pack: line ") (decimal line), decimal_short line h)
 
-pub chain_message_short : (records ending : ℕ) → broken_at records ending < 2 ^ 64 → ending < 2 ^ 64 → length (chain_message records ending) ≤ 128
-chain_message_short records ending h k =
+pub error_short : (e : ChainError) → error_number e < 2 ^ 64
+error_short NoBatch = omega arith
+error_short Broken = omega arith
+
+pub chain_message_short : (records : ℕ) (e : ChainError) → ordinal_of e records < 2 ^ 64 → length (chain_message records e) ≤ 128
+chain_message_short records e h =
     omega (
       arith,
-      length-append (ascii "unpack: the chain breaks at record " ++ decimal (broken_at records ending)) ((ascii " with " ++ decimal ending) ++ ascii "\n"),
-      length-append (ascii " with " ++ decimal ending) (ascii "\n"),
-      decimal_short (broken_at records ending) h,
-      decimal_short ending k,
+      length-append (ascii "unpack: the chain breaks at record " ++ decimal (ordinal_of e records)) ((ascii " with " ++ decimal (error_number e)) ++ ascii "\n"),
+      length-append (ascii " with " ++ decimal (error_number e)) (ascii "\n"),
+      decimal_short (ordinal_of e records) h,
+      decimal_short (error_number e) (error_short e),
     )
 
 -- ---- pack
@@ -113,14 +119,14 @@ module _ {batch cells before : List ℕ} {r : Result ℕ UnpackError} {indices n
   -- The text is that of the answer's length, and fits.
   text_fits : (n : ℕ) → r ≡ Ok n → (n ≡ length (batch_text batch)) × (length (batch_text batch) ≤ length before)
   unfolding unpacked_of
-  text_fits n e = by (eqb (chain_of batch).ending 0) (leb (length (batch_text batch)) (length before)) refl (sym e ∙ post.answer)
+  text_fits n e = by (chain_of batch).ending (leb (length (batch_text batch)) (length before)) refl (sym e ∙ post.answer)
     where
-      by : (s t : Bool) → leb (length (batch_text batch)) (length before) ≡ t
-          → Ok n ≡ cond s (cond t (Ok (length (batch_text batch))) (Err TooLong)) (Err (Broken (length (chain_of batch).indices) (chain_of batch).ending))
+      by : (x : Result ⊤ ChainError) (t : Bool) → leb (length (batch_text batch)) (length before) ≡ t
+          → Ok n ≡ unless_broken x (length (chain_of batch).indices) (cond t (Ok (length (batch_text batch))) (Err TooLong))
           → (n ≡ length (batch_text batch)) × (length (batch_text batch) ≤ length before)
-      by true true f g = (cc, leb-true (length (batch_text batch)) (length before) f)
-      by true false f g = absurd (let z : ◌≡◌ {A = ℕ} 0 1 = cc in omega arith)
-      by false t f g = absurd (let z : ◌≡◌ {A = ℕ} 0 1 = cc in omega arith)
+      by (Ok x) true f g = (cc, leb-true (length (batch_text batch)) (length before) f)
+      by (Ok x) false f g = absurd (let z : ◌≡◌ {A = ℕ} 0 1 = cc in omega arith)
+      by (Err error) t f g = absurd (let z : ◌≡◌ {A = ℕ} 0 1 = cc in omega arith)
 
   pub text_said : (n : ℕ) → length indices ≡ length cells → r ≡ Ok n → UnpackReply (batch_says batch) cells before (Out n) indices now
   text_said n free e = cells_kept free (says_as e) (let f = text_fits n e in said_out before (batch_text batch) f.1 f.0 (now_as e))
@@ -131,15 +137,15 @@ module _ {batch cells before : List ℕ} {r : Result ℕ UnpackError} {indices n
   message_said {w = w} {said} {after} free e f none s =
       cells_kept free (says_as e ∙ f) (subst (λ (l : List ℕ). SaidPost w l said after) (now_as e ∙ ap (sets before 0) none) s)
 
-  pub broken_records : (records ending : ℕ) → r ≡ Err (Broken records ending) → records ≤ 65536
+  pub broken_records : (records : ℕ) (error : ChainError) → r ≡ Err (Cut records error) → records ≤ 65536
   unfolding unpacked_of
-  broken_records records ending e = by (eqb (chain_of batch).ending 0) (leb (length (batch_text batch)) (length before)) (sym e ∙ post.answer)
+  broken_records records error e = by (chain_of batch).ending (leb (length (batch_text batch)) (length before)) (sym e ∙ post.answer)
     where
-      by : (s t : Bool) → Err (Broken records ending) ≡ cond s (cond t (Ok (length (batch_text batch))) (Err TooLong)) (Err (Broken (length (chain_of batch).indices) (chain_of batch).ending))
-          → records ≤ 65536
-      by true true g = absurd (let z : ◌≡◌ {A = ℕ} 0 1 = cc in omega arith)
-      by true false g = absurd (let z : ◌≡◌ {A = ℕ} 0 1 = cc in omega arith)
-      by false t g = let z : records ≡ length (chain_of batch).indices = cc in omega (arith, chain_short batch)
+      by : (x : Result ⊤ ChainError) (t : Bool)
+          → Err (Cut records error) ≡ unless_broken x (length (chain_of batch).indices) (cond t (Ok (length (batch_text batch))) (Err TooLong)) → records ≤ 65536
+      by (Ok x) true g = absurd (let z : ◌≡◌ {A = ℕ} 0 1 = cc in omega arith)
+      by (Ok x) false g = absurd (let z : ◌≡◌ {A = ℕ} 0 1 = cc in omega arith)
+      by (Err other) t g = let z : records ≡ length (chain_of batch).indices = cc in omega (arith, chain_short batch)
 
 pub unpack_said : (buf : List ℕ) {stream known : Stream} {cells before indices after : List ℕ} {r : Said} → stream ≡ known → UnpackReply (unpack_says known buf) cells before r indices after
     → UnpackReply (unpack_says stream buf) cells before r indices after
@@ -149,7 +155,7 @@ pub unpack_complained : {w : Saying} {cells before after : List ℕ} {r : Said} 
 unpack_complained s = record { said = s; free = refl }
 
 -- A buffer that is full is no batch, by its length: 24.
-pub full_says : (buf : List ℕ) → length buf ≡ 65537 → batch_says buf ≡ err (chain_message 0 24)
+pub full_says : (buf : List ℕ) → length buf ≡ 65537 → batch_says buf ≡ err (chain_message 0 NoBatch)
 unfolding batch_says unpacked_of
 full_says buf e =
     let long : is_batch buf ≡ false =
@@ -157,10 +163,10 @@ full_says buf e =
     ap
     (λ (c : Chain).
     unpacked_says
-    (cond (eqb c.ending 0) (cond (leb (length (batch_text buf)) 1048576) (Ok (length (batch_text buf))) (Err TooLong)) (Err (Broken (length c.indices) c.ending)))
+    (unless_broken c.ending (length c.indices) (cond (leb (length (batch_text buf)) 1048576) (Ok (length (batch_text buf))) (Err TooLong)))
     (batch_text buf))
     (chain_is buf long)
 
 pub full_said : (buf : List ℕ) {cells before indices after : List ℕ} {r : Said} → length buf ≡ 65537 → UnpackReply (batch_says buf) cells before r indices after
-    → UnpackReply (err (chain_message 0 24)) cells before r indices after
+    → UnpackReply (err (chain_message 0 NoBatch)) cells before r indices after
 full_said buf {cells} {before} {indices} {after} {r} size p = subst (λ (w : Saying). UnpackReply w cells before r indices after) (full_says buf size) p

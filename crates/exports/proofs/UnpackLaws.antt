@@ -1,27 +1,29 @@
 -- Laws of the text of a batch: a line, the lines of the first k records, and what unpacking answers.
 use mathlib.Core.Path.{◌≡◌, refl, sym, ap, ap₂, ◌∙◌, subst}
 use mathlib.Core.List.{List, [], ◌∷◌, ◌++◌, append_assoc, map, map-append}
-use mathlib.Core.Bool.{Bool, true, false, cond}
+use mathlib.Core.Bool.{Bool, true, false, cond, true≢false}
 use Prim.Native.Nat.{ℕ, ◌+◌, ◌*◌, ◌-◌, ◌<◌, ◌≤◌}
 use native.Mathlib.Numerals.{add-one}
 use native.Mathlib.Omega.{arith}
 use lib.Dec.{leb}
 use lib.ListN.{length, take, drop, set, get_or, length-append, take-append-drop}
 use lib.Seq.{sets, take-suc, take_all}
-use borrow.Author.Tests.{le-leb, lt-leb, eq-eqb, ne_eqb}
+use borrow.Author.Tests.{le-leb, lt-leb}
 use borrow.Rule.Slice.PartMut.{mid_of, put_mid}
 use Rattle.wire.specs.Varints.{PutPost}
 use Rattle.wire.proofs.EncodingLaws.{sets_more, Two}
+use Rattle.batch.specs.declared.chain.ChainError.{ChainError}
 use Rattle.batch.specs.declared.unpacking.Walked.{Walked}
 use Rattle.batch.specs.Chain.{state_at, is_batch, Chain, chain_of}
 use Rattle.batch.specs.Unpacking.{WalkedPost}
 use Rattle.batch.proofs.ChainLaws.{chain_is, batch_size}
 use Rattle.console.specs.Output.{hex_text, HexPost}
 use Rattle.console.proofs.OutputLaws.{part_put}
-use Rattle.std.specs.Prelude.{Ok, Err}
+use Rattle.std.specs.Prelude.{⊤, Result, Ok, Err, is_ok}
+use Rattle.exports.specs.declared.unpacking.UnpackError.{UnpackError}
 use Rattle.exports.specs.declared.unpacking.UnpackError.TheVariants.{Broken, TooLong}
 use Rattle.exports.specs.Text.{line_of, text_of}
-use Rattle.exports.specs.Unpacking.{batch_text, unpacked_of, UnpackedPost}
+use Rattle.exports.specs.Unpacking.{batch_text, unless_broken, unpacked_of, UnpackedPost}
 
 -- ---- a line
 
@@ -97,13 +99,13 @@ module _ (batch indices : List ℕ) where
 
 -- ---- what unpacking answers
 
--- Only a batch has a chain that ends with 0.
-pub whole_short : (batch : List ℕ) → (chain_of batch).ending ≡ 0 → length batch ≤ 65536
+-- Only a batch has a chain that comes to its end.
+pub whole_short : (batch : List ℕ) → (chain_of batch).ending ≡ Ok tt → length batch ≤ 65536
 whole_short batch e = go (is_batch batch) refl
   where
     go : (t : Bool) → is_batch batch ≡ t → length batch ≤ 65536
     go true f = (batch_size batch f).1
-    go false f = absurd (let z : ⊥ = omega (arith, sym (ap (λ (c : Chain). c.ending) (chain_is batch f)) ∙ e) in z)
+    go false f = absurd (true≢false (sym (ap is_ok (sym (ap (λ (c : Chain). c.ending) (chain_is batch f)) ∙ e))))
 
 module _ (batch cells out : List ℕ) (w : Walked) (indices : List ℕ) (walked : WalkedPost batch cells w indices) where
   walked_so : WalkedPost batch cells (record { records = length (chain_of batch).indices; ending = (chain_of batch).ending }) indices
@@ -120,26 +122,21 @@ module _ (batch cells out : List ℕ) (w : Walked) (indices : List ℕ) (walked 
   pub walked_text : text_of (map (state_at batch) (take w.records indices)) ≡ batch_text batch
   walked_text = ap (λ (l : List ℕ). text_of (map (state_at batch) l)) walked.front
 
-  pub unpack_broken : (w.ending ≡ 0 → ⊥) → UnpackedPost batch cells out (Err (Broken w.records w.ending)) indices out
-  unfolding unpacked_of
-  unpack_broken n =
-      record {
-        answer =
-            ap₂ (λ (r e : ℕ). Err (Broken r e)) walked.records walked.ending
-            ∙ sym
-            (ap (λ (t : Bool). cond t (cond (leb (length (batch_text batch)) (length out)) (Ok (length (batch_text batch))) (Err TooLong)) (Err (Broken (length (chain_of batch).indices) (chain_of batch).ending)))
-            (ne_eqb (chain_of batch).ending 0 (λ (z : (chain_of batch).ending ≡ 0). n (walked.ending ∙ z))));
-        output = refl;
-        walked = walked_so;
-      }
+  -- What is answered of a batch whose chain is not broken.
+  abbrev unbroken : Result ℕ UnpackError
+  unbroken = cond (leb (length (batch_text batch)) (length out)) (Ok (length (batch_text batch))) (Err TooLong)
 
-  module _ (e : w.ending ≡ 0) where
+  ends_so : (x : Result ⊤ ChainError) → w.ending ≡ x → unpacked_of (length out) batch ≡ unless_broken x (length (chain_of batch).indices) unbroken
+  unfolding unpacked_of
+  ends_so x e = ap (λ (r : Result ⊤ ChainError). unless_broken r (length (chain_of batch).indices) unbroken) (sym walked.ending ∙ e)
+
+  pub unpack_broken : (error : ChainError) → w.ending ≡ Err error → UnpackedPost batch cells out (Err (Broken w.records error)) indices out
+  unpack_broken error e =
+      record { answer = ap (λ (k : ℕ). Err (Broken k error)) walked.records ∙ sym (ends_so (Err error) e); output = refl; walked = walked_so }
+
+  module _ (e : w.ending ≡ Ok tt) where
     ended : (t : Bool) → leb (length (batch_text batch)) (length out) ≡ t → unpacked_of (length out) batch ≡ cond t (Ok (length (batch_text batch))) (Err TooLong)
-    unfolding unpacked_of
-    ended t f =
-        ap (λ (b : Bool). cond b (cond (leb (length (batch_text batch)) (length out)) (Ok (length (batch_text batch))) (Err TooLong)) (Err (Broken (length (chain_of batch).indices) (chain_of batch).ending)))
-        (eq-eqb (chain_of batch).ending 0 (sym walked.ending ∙ e))
-        ∙ ap (λ (b : Bool). cond b (Ok (length (batch_text batch))) (Err TooLong)) f
+    ended t f = ends_so (Ok tt) e ∙ ap (λ (b : Bool). cond b (Ok (length (batch_text batch))) (Err TooLong)) f
 
     pub unpack_long : length out < length (text_of (map (state_at batch) (take w.records indices))) → UnpackedPost batch cells out (Err TooLong) indices out
     unpack_long h =

@@ -1,11 +1,14 @@
 -- What the programs `pack` and `unpack` say, by what came in: a text for standard output, or a message for standard error.
-use Rattle.std.specs.Prelude.{◌≡◌, List, [], ◌∷◌, ◌++◌, cond, ℕ, ◌+◌, ◌-◌, ◌/◌, ◌%◌, ◌≤◌, eqb, Result, Ok, Err, decimal, length, take}
+use Rattle.std.specs.Prelude.{◌≡◌, List, [], ◌∷◌, ◌++◌, ℕ, ◌+◌, ◌-◌, ◌/◌, ◌%◌, ◌≤◌, Result, Ok, Err, decimal, length, take}
 use Rattle.std.specs.Counts.{IsPrefixLen}
 use Rattle.console.specs.declared.input.Arrived.{Arrived}
 use Rattle.console.specs.declared.input.StreamError.TheVariants.{Failed, Full}
 use Rattle.console.specs.declared.output.Said.{Said}
 use Rattle.console.specs.Input.{Stream, ArrivedIn}
 use Rattle.console.specs.Output.{ascii, Saying, out, err, size_of, saying_of, SaidPost}
+use Rattle.batch.specs.declared.chain.ChainError.{ChainError}
+use Rattle.batch.specs.declared.chain.ChainError.TheVariants.{NoBatch}
+use Rattle.batch.specs.Chain.{error_number, ordinal_of}
 use Rattle.batch.specs.Packing.{packed}
 use Rattle.exports.specs.declared.packing.PackError.{PackError}
 use Rattle.exports.specs.declared.packing.PackError.TheVariants.{BadLine, TooLong as BatchTooLong}
@@ -58,19 +61,15 @@ pub record PackReply (w : Saying) (spare before : List ℕ) (r : Said) (left aft
 
 -- ---- unpack
 
--- "Ordinal (0 for 24)": that of the record that could not be had, the one after the `records` that could.
-abbrev pub broken_at : ℕ → ℕ → ℕ
-broken_at records ending = cond (eqb ending 24) 0 (records + 1)
-
--- A chain of so many records that ends with the number of a question.
-abbrev pub chain_message : ℕ → ℕ → List ℕ
-chain_message records ending =
-    (ascii "unpack: the chain breaks at record " ++ decimal (broken_at records ending)) ++ ((ascii " with " ++ decimal ending) ++ ascii "\n")
+-- A chain that breaks after so many records, with the number of a question.
+abbrev pub chain_message : ℕ → ChainError → List ℕ
+chain_message records e =
+    (ascii "unpack: the chain breaks at record " ++ decimal (ordinal_of e records)) ++ ((ascii " with " ++ decimal (error_number e)) ++ ascii "\n")
 
 -- The text; or nothing but a message.
 abbrev pub unpacked_says : Result ℕ UnpackError → List ℕ → Saying
 unpacked_says (Ok n) text = out text
-unpacked_says (Err (Broken records ending)) text = err (chain_message records ending)
+unpacked_says (Err (Broken records e)) text = err (chain_message records e)
 unpacked_says (Err TextTooLong) text = err (ascii "unpack: the text is longer than 1,048,576 bytes\n")
 
 unfoldable pub batch_says : List ℕ → Saying
@@ -80,7 +79,7 @@ batch_says batch = unpacked_says (unpacked_of 1048576 batch) (batch_text batch)
 abbrev pub unpack_says : Stream → List ℕ → Saying
 unpack_says (Ok n) buf = batch_says (take n buf)
 unpack_says (Err Failed) buf = err (ascii "unpack: standard input cannot be read\n")
-unpack_says (Err Full) buf = err (chain_message 0 24)
+unpack_says (Err Full) buf = err (chain_message 0 NoBatch)
 
 -- The memory that `unpack` lends: so that a stream that fills `buf` is longer than 65,536 bytes, and a text that does not fit is longer than 1,048,576.
 pub record UnpackMemory (arrived : Arrived) (buf indices text : List ℕ) : Type 0 where

@@ -1,6 +1,7 @@
 -- What unpacking a batch answers and leaves.
-use Rattle.std.specs.Prelude.{◌≡◌, List, [], cond, ℕ, leb, eqb, Result, Ok, Err, length}
+use Rattle.std.specs.Prelude.{◌≡◌, ⊤, List, [], cond, ℕ, leb, Result, Ok, Err, length}
 use Rattle.std.proofs.lemmas.List.Edits.{sets}
+use Rattle.batch.specs.declared.chain.ChainError.{ChainError}
 use Rattle.batch.specs.Chain.{chain_of, states_of}
 use Rattle.batch.specs.Unpacking.{WalkedPost}
 use Rattle.exports.specs.declared.unpacking.UnpackError.{UnpackError}
@@ -11,12 +12,16 @@ use Rattle.exports.specs.Text.{text_of}
 abbrev pub batch_text : List ℕ → List ℕ
 batch_text batch = text_of (states_of batch)
 
--- A chain that does not end with 0 is broken: how many records it has, and the number that ends it. Else the length of the text, where `room` bytes hold it.
+-- A chain that is broken after so many records, and what follows where it is not.
+abbrev pub unless_broken : Result ⊤ ChainError → ℕ → Result ℕ UnpackError → Result ℕ UnpackError
+unless_broken (Ok x) records next = next
+unless_broken (Err e) records next = Err (Broken records e)
+
+-- How many records a broken chain has, and what breaks it. Else the length of the text, where `room` bytes hold it.
 unfoldable pub unpacked_of : ℕ → List ℕ → Result ℕ UnpackError
 unpacked_of room batch =
-    cond (eqb (chain_of batch).ending 0)
+    unless_broken (chain_of batch).ending (length (chain_of batch).indices)
     (cond (leb (length (batch_text batch)) room) (Ok (length (batch_text batch))) (Err TooLong))
-    (Err (Broken (length (chain_of batch).indices) (chain_of batch).ending))
 
 -- What is put: the text, where there is one, else nothing.
 abbrev pub put_of : Result ℕ UnpackError → List ℕ → List ℕ

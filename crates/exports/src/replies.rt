@@ -3,11 +3,12 @@
 ghost use Rattle.std.specs.Prelude.{◌≡◌, ◌++◌, ◌+◌, ◌≤◌, length, decimal};
 ghost use Rattle.wire.specs.Varints.{PutPost};
 ghost use Rattle.console.specs.Output.{SaidPost, err};
-ghost use Rattle.exports.specs.Replies.{line_message, lines_say, pack_says, broken_at, chain_message, batch_says, unpack_says, PackMemory, PackReply, UnpackMemory, UnpackReply};
+ghost use Rattle.exports.specs.Replies.{line_message, lines_say, pack_says, chain_message, batch_says, unpack_says, PackMemory, PackReply, UnpackMemory, UnpackReply};
 
 use crate::packing::PackError;
 use crate::unpacking::UnpackError;
 use crate::{packing, unpacking};
+use batch::chain::ChainError;
 use console::input::{Arrived, StreamError};
 use console::output::Said;
 use wire::encoding::put_bytes;
@@ -37,21 +38,14 @@ fn complain_of_line(text: &mut [u8], line: usize, what: &[u8]) -> Said
     Said::Err(put_bytes(text, next, what))
 }
 
-// The ordinal of the record that breaks the chain. Bytes that are no batch have no record: 0 and 24.
-fn broken_at(records: usize, ending: u8) -> usize
-    requires { records ≤ 65536 }
-    ensures { result ≡ broken_at records ending }
-{
-    if ending == 24 { 0 } else { records + 1 }
-}
-
-fn complain_of_chain(text: &mut [u8], records: usize, ending: u8) -> Said
+fn complain_of_chain(text: &mut [u8], records: usize, error: ChainError) -> Said
     requires { (records ≤ 65536) × (128 ≤ length text.old) }
-    ensures { SaidPost (err (chain_message records ending)) text.old result text.new }
+    ensures { SaidPost (err (chain_message records error)) text.old result text.new }
 {
-    let record = broken_at(records, ending);
+    let record = error.ordinal(records);
     let next = put_numbered(text, 0, b"unpack: the chain breaks at record ", record);
-    let end = put_numbered(text, next, b" with ", ending as usize);
+    let number = usize::from(error.number());
+    let end = put_numbered(text, next, b" with ", number);
     Said::Err(put_bytes(text, end, b"\n"))
 }
 
@@ -82,7 +76,10 @@ pub(crate) fn pack_reply(arrived: Arrived, lines: &[u8], spare: &mut [u8], out: 
     match arrived.stream {
         Ok(n) => pack_lines(&lines[..n], spare, out),
         Err(StreamError::Failed) => complain(out, b"pack: standard input cannot be read\n"),
-        Err(StreamError::Full) => complain(out, b"pack: standard input is longer than 262,144 bytes\n"),
+        Err(StreamError::Full) => complain(
+            out,
+            b"pack: standard input is longer than 262,144 bytes\n",
+        ),
     }
 }
 
@@ -92,8 +89,11 @@ fn unpack_batch(batch: &[u8], indices: &mut [u32], text: &mut [u8]) -> Said
 {
     match unpacking::unpack(batch, indices, text) {
         Ok(n) => Said::Out(n),
-        Err(UnpackError::Broken { records, ending }) => complain_of_chain(text, records, ending),
-        Err(UnpackError::TooLong) => complain(text, b"unpack: the text is longer than 1,048,576 bytes\n"),
+        Err(UnpackError::Broken { records, error }) => complain_of_chain(text, records, error),
+        Err(UnpackError::TooLong) => complain(
+            text,
+            b"unpack: the text is longer than 1,048,576 bytes\n",
+        ),
     }
 }
 

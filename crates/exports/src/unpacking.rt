@@ -5,13 +5,14 @@ ghost use Rattle.batch.specs.Chain.{state_at};
 ghost use Rattle.exports.specs.Text.{line_of, text_of};
 ghost use Rattle.exports.specs.Unpacking.{UnpackedPost};
 
+use batch::chain::ChainError;
 use batch::unpacking;
 use console::output;
 
-// The chain is broken after so many records, with the number of a question; or the text is longer than the slice.
+// The chain is broken after so many records; or the text is longer than the slice.
 #[derive(Clone, Copy, Debug, PartialEq, Eq)]
 pub enum UnpackError {
-    Broken { records: usize, ending: u8 },
+    Broken { records: usize, error: ChainError },
     TooLong,
 }
 
@@ -53,20 +54,19 @@ fn put_lines(text: &mut [u8], batch: &[u8], indices: &[u32]) -> usize
 
 // Puts the text of a batch at the front of `text`, and answers how long it is. `indices` is for the walk, which comes first: where the chain is broken, nothing
 // is put.
-pub(crate) fn unpack(batch: &[u8], indices: &mut [u32], text: &mut [u8]) -> Result<usize, UnpackError>
+pub(crate) fn unpack(
+    batch: &[u8],
+    indices: &mut [u32],
+    text: &mut [u8],
+) -> Result<usize, UnpackError>
     requires { 65536 ≤ length indices.old }
     ensures { UnpackedPost batch.now indices.old text.old result indices.new text.new }
 {
     let w = unpacking::walk(batch, indices);
     let records = w.records;
-    if w.ending != 0 {
-        return Err(UnpackError::Broken {
-            records,
-            ending: w.ending,
-        });
+    match w.ending {
+        Err(error) => Err(UnpackError::Broken { records, error }),
+        Ok(()) if text.len() < text_len(batch, &indices[..records]) => Err(UnpackError::TooLong),
+        Ok(()) => Ok(put_lines(text, batch, &indices[..records])),
     }
-    if text.len() < text_len(batch, &indices[..records]) {
-        return Err(UnpackError::TooLong);
-    }
-    Ok(put_lines(text, batch, &indices[..records]))
 }

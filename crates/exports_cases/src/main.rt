@@ -18,7 +18,10 @@ fn print_walk(rt: &impl Print, batch: &[u8]) -> io::Result<()> {
     let mut indices: [u32; 65536] = filled(0);
     let w = unpacking::walk(batch, &mut indices);
     let n = w.records;
-    print!(rt; "{n} {}", w.ending)?;
+    match w.ending {
+        Ok(()) => print!(rt; "{n} 0")?,
+        Err(e) => print!(rt; "{n} {}", e as u8)?,
+    }
     for &index in &indices[..n] {
         print!(rt; " {}", Hex(unpacking::state_at(batch, index as usize)))?;
     }

@@ -41,15 +41,11 @@ fn print_facts(rt: &impl Print, enc: Sparse, v: u32) -> io::Result<()>
 {
     let index = enc.decode_normal_index(v);
     let rank = enc.decode_normal_rho_w(v);
-    print!(rt;
-        " {} {index} {rank}",
-        enc.decode_sparse_index(v)
-    )?;
+    print!(rt; " {} {index} {rank}", enc.decode_sparse_index(v))?;
     print_lower(rt, enc.normal_precision, index, rank)
 }
 
-fn value_case(rt: &impl Print, enc: Sparse, v: u32) -> io::Result<()>
-{
+fn value_case(rt: &impl Print, enc: Sparse, v: u32) -> io::Result<()> {
     let marked = u8::from(enc.is_rho_encoded(v));
     let ok = enc.is_valid(v);
     print!(rt; "{marked} {}", u8::from(ok))?;
@@ -59,8 +55,7 @@ fn value_case(rt: &impl Print, enc: Sparse, v: u32) -> io::Result<()>
     println!(rt; "")
 }
 
-fn value_line(rt: &impl Print, enc: Sparse, line: &[u8]) -> io::Result<()>
-{
+fn value_line(rt: &impl Print, enc: Sparse, line: &[u8]) -> io::Result<()> {
     match read_value(word(line, 3)) {
         Some(v) => value_case(rt, enc, v),
         None => bad_case(rt),
@@ -69,8 +64,7 @@ fn value_line(rt: &impl Print, enc: Sparse, line: &[u8]) -> io::Result<()>
 
 // ---- lists
 
-fn decode_case(rt: &impl Print, enc: Sparse, bytes: &[u8]) -> io::Result<()>
-{
+fn decode_case(rt: &impl Print, enc: Sparse, bytes: &[u8]) -> io::Result<()> {
     let mut values = [0u32; 512];
     if 512 < bytes.len() {
         return bad_case(rt);
@@ -81,8 +75,7 @@ fn decode_case(rt: &impl Print, enc: Sparse, bytes: &[u8]) -> io::Result<()>
     }
 }
 
-fn decode_line(rt: &impl Print, enc: Sparse, line: &[u8]) -> io::Result<()>
-{
+fn decode_line(rt: &impl Print, enc: Sparse, line: &[u8]) -> io::Result<()> {
     let mut bytes: [u8; 4096] = filled(0);
     let Some(n) = read_bytes(word(line, 3), &mut bytes) else {
         return bad_case(rt);
@@ -165,8 +158,7 @@ fn merges(enc: Sparse, l: &[u32]) -> bool
     enc.all_valid(l)
 }
 
-fn merge_case(rt: &impl Print, enc: Sparse, a: &[u32], b: &[u32]) -> io::Result<()>
-{
+fn merge_case(rt: &impl Print, enc: Sparse, a: &[u32], b: &[u32]) -> io::Result<()> {
     if !merges(enc, a) {
         return bad_case(rt);
     }
@@ -178,8 +170,7 @@ fn merge_case(rt: &impl Print, enc: Sparse, a: &[u32], b: &[u32]) -> io::Result<
     print_merged(rt, &out[..r.len], r.bytes)
 }
 
-fn merge_line(rt: &impl Print, enc: Sparse, line: &[u8]) -> io::Result<()>
-{
+fn merge_line(rt: &impl Print, enc: Sparse, line: &[u8]) -> io::Result<()> {
     let mut a = [0u32; 512];
     let Some(n) = read_list(word(line, 3), &mut a) else {
         return bad_case(rt);
@@ -234,8 +225,7 @@ fn insert_case(
     print_merged(rt, &union[..r.len], r.bytes)
 }
 
-fn insert_line(rt: &impl Print, enc: Sparse, line: &[u8]) -> io::Result<()>
-{
+fn insert_line(rt: &impl Print, enc: Sparse, line: &[u8]) -> io::Result<()> {
     let mut union = [0u32; 1024];
     let Some(n) = read_list(word(line, 4), &mut union) else {
         return bad_case(rt);
@@ -250,8 +240,7 @@ fn insert_line(rt: &impl Print, enc: Sparse, line: &[u8]) -> io::Result<()>
     }
 }
 
-fn count_case(rt: &impl Print, enc: Sparse, list: &[u32]) -> io::Result<()>
-{
+fn count_case(rt: &impl Print, enc: Sparse, list: &[u32]) -> io::Result<()> {
     if !merges(enc, list) {
         return bad_case(rt);
     }
@@ -261,8 +250,7 @@ fn count_case(rt: &impl Print, enc: Sparse, list: &[u32]) -> io::Result<()>
     println!(rt; "{}", enc.distinct_indices(list))
 }
 
-fn count_line(rt: &impl Print, enc: Sparse, line: &[u8]) -> io::Result<()>
-{
+fn count_line(rt: &impl Print, enc: Sparse, line: &[u8]) -> io::Result<()> {
     let mut list = [0u32; 512];
     let Some(n) = read_list(word(line, 3), &mut list) else {
         return bad_case(rt);
@@ -289,8 +277,7 @@ fn set_case(
     q: u32,
     registers: &mut [u8],
     list: &[u32],
-) -> io::Result<()>
-{
+) -> io::Result<()> {
     let p = enc.normal_precision;
     if p < q {
         return bad_case(rt);
@@ -308,8 +295,7 @@ fn set_case(
     print_registers(rt, q, registers)
 }
 
-fn set_line(rt: &impl Print, enc: Sparse, line: &[u8]) -> io::Result<()>
-{
+fn set_line(rt: &impl Print, enc: Sparse, line: &[u8]) -> io::Result<()> {
     let mut registers: [u8; 4096] = filled(0);
     let Some(n) = read_bytes(word(line, 4), &mut registers) else {
         return bad_case(rt);
@@ -397,8 +383,7 @@ fn lower_line(rt: &impl Print, line: &[u8]) -> io::Result<()> {
 // ---- lines
 
 // A case of a pair of precisions.
-fn pair_case(rt: &impl Print, kind: u8, enc: Sparse, line: &[u8]) -> io::Result<()>
-{
+fn pair_case(rt: &impl Print, kind: u8, enc: Sparse, line: &[u8]) -> io::Result<()> {
     match kind {
         b'v' => value_line(rt, enc, line),
         b'd' => decode_line(rt, enc, line),
