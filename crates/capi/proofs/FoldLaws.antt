@@ -17,7 +17,7 @@ use Rattle.rollup.specs.Calls.{Call, added, Steps, begun, adding, Run}
 use Rattle.rollup.proofs.AddLaws.{add_unfit, refused_post}
 use Rattle.rollup.proofs.ViewLaws.{add_keeps, steps_after}
 use Rattle.batch.specs.Batch.{added_all}
-use Rattle.batch.proofs.ChainLaws.{added_last, added_after, same_cells}
+use Rattle.batch.proofs.RollLaws.{added_last, added_after, same_cells}
 use Rattle.capi.specs.Heads.{is_head, head_in, with_head}
 use Rattle.capi.specs.Folds.{between, splits, ends_fit, fold_fits, FoldedPre, FoldedPost, FoldPost, FoldGoesOn, fold_answer, FoldRowPost}
 use Rattle.capi.proofs.CallLaws.{Found}

@@ -5,7 +5,6 @@ ghost use Rattle.rollup.specs.Accumulator.{mem};
 ghost use Rattle.capi.specs.Calls.{AddRowPost, WriteRowPost, FreshPost};
 ghost use Rattle.capi.specs.Folds.{FoldRowPost};
 
-use crate::heads::Head;
 use crate::{folding, heads};
 use rollup::accumulator::Accumulator;
 use rollup::memory::Memory;
@@ -32,11 +31,9 @@ pub fn filmoed_add(
 ) -> u8
     ensures { AddRowPost head.old (mem registers.old sparse.old pending.old) (length scratch.old) state.now result head.new (mem registers.new sparse.new pending.new) }
 {
-    let h = heads::read_head(&head[..]);
-    let Head::Is(a) = h else {
+    let Some(mut a) = heads::read_head(head) else {
         return 1;
     };
-    let mut a = a;
     let mut memory = Memory {
         registers,
         sparse,
@@ -52,8 +49,8 @@ pub fn filmoed_add(
 fn put_first(cells: &mut [u64], v: u64)
     ensures { cells.new ≡ set cells.old 0 v }
 {
-    if 0 < cells.len() {
-        cells[0] = v;
+    if let Some(first) = cells.first_mut() {
+        *first = v;
     }
 }
 
@@ -69,8 +66,7 @@ pub fn filmoed_write(
 ) -> u8
     ensures { WriteRowPost head.now (mem registers.now sparse.now pending.old) (length scratch.old) out.old len.old result (mem registers.now sparse.now pending.new) out.new len.new }
 {
-    let h = heads::read_head(head);
-    let Head::Is(a) = h else {
+    let Some(a) = heads::read_head(head) else {
         put_first(len, 0);
         return 1;
     };
@@ -105,11 +101,9 @@ pub fn filmoed_fold(
     if !folding::fold_fits(states, ends, &answers[..]) {
         return BAD_ENDS;
     }
-    let h = heads::read_head(&head[..]);
-    let Head::Is(a) = h else {
+    let Some(mut a) = heads::read_head(head) else {
         return 1;
     };
-    let mut a = a;
     let mut memory = Memory {
         registers,
         sparse,
