@@ -21,6 +21,7 @@ pub fn filmoed_fresh(head: &mut [u64]) -> u8
 }
 
 // Adds a state: what `Accumulator::add` of `rollup` promises.
+#[tactic(auto, using(crate::proofs::CallLaws::ten_cells))]
 pub fn filmoed_add(
     head: &mut [u64],
     registers: &mut [u8],
@@ -86,6 +87,7 @@ pub fn filmoed_write(
 const BAD_ENDS: u8 = 100;
 
 // Adds many states: `states` has them one behind the other, `ends` where each one ends, and `answers` a cell for each answer. These arguments are judged first.
+#[tactic(auto, using(crate::proofs::CallLaws::ten_cells))]
 pub fn filmoed_fold(
     head: &mut [u64],
     registers: &mut [u8],

@@ -13,13 +13,14 @@ use rollup::refusal;
 use rollup::refusal::Refusal;
 
 // Whether the ends are of states in so many bytes. The loop has no way out, so that it has no branch: a fold of right ends pays little.
+#[tactic(auto, unfolding(crate::specs::Folds::ends_fit))]
 fn ends_fit(ends: &[u64], size: u64) -> bool
     ensures { result ≡ ends_fit size 0 ends.now }
 {
     let mut all = true;
     let mut start = 0;
     for &end in ends {
-        all = all & (start <= end);
+        all &= start <= end;
         start = end;
     }
     all & (start <= size)

@@ -32,7 +32,7 @@ pub fn read_head(row: &[u64]) -> Option<Accumulator>
         sparse_len,
         sparse_bytes,
         pending_len,
-        ..,
+        ..
     ] = row
     else {
         return None;
