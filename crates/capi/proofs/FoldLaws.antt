@@ -172,28 +172,6 @@ unfolding FoldGoesOn
 fold_goes_on a m room bytes ends answers r n left post first calls run =
     subst (λ (c : List Call). Run first c r n) (sym (added_after room (splits bytes 0 ends) left calls)) (steps_after run post.steps)
 
--- ---- question 1 and the states
-
-module _ (a : Accumulator) (m : Mem) (room : ℕ) (bytes ends answers : List ℕ) where
-  -- What the answer says of question 1.
-  module _ (answer : ℕ) (r : Accumulator) (n : Mem) (left : List ℕ) (post : FoldPost a m room bytes ends answers answer r n left) where
-    by_fit : (t : Bool) → fits a m ≡ t → answer ≡ cond t 0 1
-    by_fit t e = post.answer_is ∙ ap (λ (b : Bool). cond b 0 1) e
-
-    pub was_fit : answer ≡ 0 → fits a m ≡ true
-    was_fit z = go (fits a m) refl
-      where
-        go : (t : Bool) → fits a m ≡ t → fits a m ≡ true
-        go true e = e
-        go false e = absurd (let y : ⊥ = omega (arith, by_fit false e) in y)
-
-    pub was_unfit : (answer ≡ 0 → ⊥) → fits a m ≡ false
-    was_unfit z = go (fits a m) refl
-      where
-        go : (t : Bool) → fits a m ≡ t → fits a m ≡ false
-        go true e = absurd (z (by_fit true e))
-        go false e = e
-
 -- ---- one state
 
 -- Its end is that of the bytes, and it has one cell.
@@ -211,20 +189,27 @@ unfolding added_all splits
 one_added room bytes [] e = absurd (let z : ⊥ = omega arith in z)
 one_added room bytes (k ∷ left) e = refl
 
-module _ (a : Accumulator) (m : Mem) (room : ℕ) (bytes : List ℕ) (cell answer : ℕ) (r : Accumulator) (n : Mem) (left : List ℕ)
+module _ {a : Accumulator} {m : Mem} {room : ℕ} {bytes : List ℕ} {cell answer : ℕ} {r : Accumulator} {n : Mem} {left : List ℕ}
     (post : FoldPost a m room bytes (length bytes ∷ []) (cell ∷ []) answer r n left) where
+  -- What the answer says of question 1.
+  asked : (t : Bool) → fits a m ≡ t → answer ≡ cond t 0 1
+  asked t e = post.answer_is ∙ ap (λ (b : Bool). cond b 0 1) e
+
   pub one_state : answer ≡ 0 → AddPost a m room bytes (get_or left 0 0) r n
-  one_state z =
-      let folded = post.folded (was_fit a m room bytes (length bytes ∷ []) (cell ∷ []) answer r n left post z) in
-      subst (λ (s : List ℕ). AddPost a m room s (get_or left 0 0) r n) (take_all (length bytes - 0) bytes (omega arith))
-      (one_call (subst (λ (c : List Call). Steps a m c r n) (one_added room bytes left folded.cells) folded.steps))
+  one_state z = go (fits a m) refl
+    where
+      go : (t : Bool) → fits a m ≡ t → AddPost a m room bytes (get_or left 0 0) r n
+      go true e =
+          let folded = post.folded e in
+          subst (λ (s : List ℕ). AddPost a m room s (get_or left 0 0) r n) (take_all (length bytes - 0) bytes (omega arith))
+          (one_call (subst (λ (c : List Call). Steps a m c r n) (one_added room bytes left folded.cells) folded.steps))
+      go false e = absurd (let y : ⊥ = omega (arith, asked false e) in y)
 
   pub one_refused : (answer ≡ 0 → ⊥) → AddPost a m room bytes answer r n
-  one_refused z =
-      let unfit = was_unfit a m room bytes (length bytes ∷ []) (cell ∷ []) answer r n left post z in
-      let same = post.refused unfit in
-      let one : answer ≡ 1 = post.answer_is ∙ ap (λ (b : Bool). cond b 0 1) unfit in
-      subst (λ (l : Mem). AddPost a m room bytes answer r l) (sym same.1)
-      (subst (λ (h : Accumulator). AddPost a m room bytes answer h m) (sym same.0)
-      (subst (λ (k : ℕ). AddPost a m room bytes k a m) (sym one)
-      (refused_post a m room bytes 1 (add_unfit a m room bytes unfit))))
+  one_refused z = go (fits a m) refl
+    where
+      go : (t : Bool) → fits a m ≡ t → AddPost a m room bytes answer r n
+      go true e = absurd (z (asked true e))
+      go false e =
+          let same = post.refused e in
+          rw (asked false e, same.0, same.1) (refused_post a m room bytes 1 (add_unfit a m room bytes e))
