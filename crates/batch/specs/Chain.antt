@@ -26,6 +26,11 @@ abbrev pub error_number : ChainError → ℕ
 error_number NoBatch = 24
 error_number Broken = 25
 
+-- "Ordinal (0 for 24)": that of the record that could not be had, the one after the `records` that could.
+abbrev pub ordinal_of : ChainError → ℕ → ℕ
+ordinal_of NoBatch records = 0
+ordinal_of Broken records = records + 1
+
 -- The indices of a chain's records in order, and how it ends: "zero ends the chain", or else a question does.
 pub record Chain : Type 0 where
   pub indices : List ℕ

@@ -1,6 +1,6 @@
 // The chain of a batch: its records, one after the other.
 ghost use Rattle.std.specs.Prelude.{◌≡◌, length, ◌+◌, ◌≤◌};
-ghost use Rattle.batch.specs.Chain.{word_at, is_record, is_batch};
+ghost use Rattle.batch.specs.Chain.{word_at, is_record, is_batch, ordinal_of};
 ghost use Rattle.batch.specs.Records.{BeginsPost};
 
 // Why a chain ends before an index of zero. Each has the number of its question.
@@ -10,6 +10,19 @@ pub enum ChainError {
     NoBatch = 24,
     // 25: "is each index at least 4 and above the one before, and the record inside?"
     Broken = 25,
+}
+
+impl ChainError {
+    // The ordinal of the record that could not be had, where so many could. Bytes that are no batch have no record: 0.
+    pub fn ordinal(self, records: usize) -> usize
+        requires { records ≤ 65536 }
+        ensures { result ≡ ordinal_of self records }
+    {
+        match self {
+            ChainError::NoBatch => 0,
+            ChainError::Broken => records + 1,
+        }
+    }
 }
 
 // Where a record stands, and its state, which is a part of the batch.

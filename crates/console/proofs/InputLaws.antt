@@ -1,26 +1,26 @@
 -- Laws of what is read: a position found, decimal numbers, byte strings.
 use mathlib.Core.Path.{◌≡◌, refl, sym, ap, ap₂, ◌∙◌, subst}
 use mathlib.Core.List.{List, [], ◌∷◌, ◌++◌, append-nil}
-use mathlib.Core.Bool.{Bool, true, false, cond, true≢false}
-use mathlib.Core.Option.{Option, none, some}
-use mathlib.Core.Logic.{◌⊎◌, inl, inr}
-use Rattle.std.specs.Prelude.{Result, Ok, Err}
+use mathlib.Core.Bool.{Bool, true, false, cond}
+use mathlib.Core.Logic.{◌⊎◌, inl, inr, ⊎_elim, ◌≢◌}
+use Rattle.std.specs.Prelude.{min, Option, Some, None, Result, Ok, Err, MatchOption, unwrap_or}
 use Prim.Native.Nat.{ℕ, zero, suc, ◌+◌, ◌*◌, ◌-◌, ◌/◌, ◌%◌, ◌^◌, ◌<◌, ◌≤◌}
 use native.Mathlib.Numerals.{add-one}
 use native.Mathlib.Omega.{arith}
-use lib.ListN.{length, set, drop, take, get_or, drop_of_length-le}
+use lib.ListN.{length, set, drop, take, get_or, length-drop, drop_of_length-le}
 use lib.Seq.{length-take-le, drop-cons, drop-drop, append_snoc, take-suc-set, drop-set-lt}
 use lib.Dec.{ltb}
-use borrow.Author.Tests.{lt-ltb, le-ltb, ltb-true, ltb-false, eq-eqb, ne_eqb}
+use borrow.Author.Tests.{le-ltb, ltb-true, ltb-false, eq-eqb, ne_eqb}
+use Rattle.std.specs.Char.{is_ascii_digit}
 use Rattle.std.specs.Counts.{IsPrefixLen}
-use Rattle.console.specs.declared.input.Bytes.{Bytes}
-use Rattle.console.specs.declared.input.Bytes.TheVariants.{Count}
-use Rattle.console.specs.declared.input.Stream.{Stream}
-use Rattle.console.specs.declared.input.Stream.TheVariants.{All, Failed, Full}
+use Rattle.std.specs.List.{AllWithin, HoldsAt}
+use Rattle.std.proofs.lemmas.Iterator.{index_from_first}
+use Rattle.std.proofs.lemmas.List.{take_all}
+use Rattle.std.specs.declared.ops.ControlFlow.{ControlFlow}
+use Rattle.std.specs.declared.ops.ControlFlow.TheVariants.{Continue, Break}
+use Rattle.console.specs.declared.input.StreamError.TheVariants.{Full}
 use Rattle.console.specs.declared.input.Arrived.{Arrived}
-use Rattle.console.specs.declared.input.Reading.{Reading}
-use Rattle.console.specs.declared.input.Reading.TheVariants.{More, Done}
-use Rattle.console.specs.Input.{so_far, reading_of, ArrivedIn, StreamPost, FrontOnly, BytesPost, up_to, digit_of, decimal_from, decimal_of, below64, cons_to, byte_then, hex_of, onto}
+use Rattle.console.specs.Input.{Stream, so_far, reading_of, ArrivedIn, StreamPost, FrontOnly, up_to, decimal_from, decimal_of, below64, cons_to, byte_then, pairs_of, PairsPost, onto}
 
 -- One of two numbers is the smaller.
 pub side : (a b : ℕ) → (a < b) ⊎ (b ≤ a)
@@ -32,41 +32,31 @@ side a b = go (ltb a b) refl
 
 -- ---- a position
 
-module _ (s : List ℕ) (b i : ℕ) where
-  pub up_to_end : length s ≤ i → up_to b (drop i s) ≡ 0
-  unfolding up_to
-  up_to_end h = rw drop_of_length-le
+up_to_nil : (b : ℕ) → up_to b [] ≡ 0
+unfolding up_to
+up_to_nil b = refl
 
-  pub up_to_here : i < length s → get_or s i 0 ≡ b → up_to b (drop i s) ≡ 0
-  unfolding up_to
-  up_to_here h e = rw (drop-cons s i 0, eq-eqb _ _ e)
+up_to_hit : (b x : ℕ) (l : List ℕ) → x ≡ b → up_to b (x ∷ l) ≡ 0
+unfolding up_to
+up_to_hit b x l e = rw (eq-eqb x b e)
 
-  pub up_to_more : i < length s → (get_or s i 0 ≡ b → ⊥) → up_to b (drop i s) ≡ 1 + up_to b (drop (i + 1) s)
-  unfolding up_to
-  up_to_more h n = rw (drop-cons s i 0, ne_eqb _ _ n, add-one)
+up_to_miss : (b x : ℕ) (l : List ℕ) → x ≢ b → up_to b (x ∷ l) ≡ up_to b l + 1
+unfolding up_to
+up_to_miss b x l n = rw (ne_eqb x b n) (omega arith)
 
--- ---- digits
+-- The place that a search finds, or the end.
+pub up_to_place : (b : ℕ) (s : List ℕ) (r : Option ℕ)
+    → MatchOption r (AllWithin (λ x. x ≢ b) s 0 (length s)) (λ i. (i < length s) × HoldsAt (λ x. x ≡ b) s i × AllWithin (λ x. x ≢ b) s 0 i)
+    → up_to b s ≡ unwrap_or r (length s)
+up_to_place b s r = index_from_first (up_to b) (λ x. x ≡ b) (λ x. x ≢ b) (up_to_nil b) (up_to_hit b) (up_to_miss b) s r
 
-module _ (b : ℕ) where
-  pub digit_low : b < 48 → digit_of b ≡ 16
-  unfolding digit_of
-  digit_low h = rw (lt-ltb b 48 h)
-
-  pub digit_figure : 48 ≤ b → b < 58 → digit_of b ≡ b - 48
-  unfolding digit_of
-  digit_figure l h = rw (le-ltb b 48 l, lt-ltb b 58 h)
-
-  pub digit_between : 58 ≤ b → b < 97 → digit_of b ≡ 16
-  unfolding digit_of
-  digit_between l h = rw (le-ltb b 48 (omega arith), le-ltb b 58 l, lt-ltb b 97 h)
-
-  pub digit_letter : 97 ≤ b → b < 103 → digit_of b ≡ b - 87
-  unfolding digit_of
-  digit_letter l h = rw (le-ltb b 48 (omega arith), le-ltb b 58 (omega arith), le-ltb b 97 l, lt-ltb b 103 h)
-
-  pub digit_high : 103 ≤ b → digit_of b ≡ 16
-  unfolding digit_of
-  digit_high l = rw (le-ltb b 48 (omega arith), le-ltb b 58 (omega arith), le-ltb b 97 (omega arith), le-ltb b 103 l)
+-- What stands behind it.
+pub rest_behind : (s : List ℕ) (n m : ℕ) → m ≡ min (n + 1) (length s) → take (length s - m) (drop m s) ≡ drop (n + 1) s
+rest_behind s n m e =
+    ⊎_elim
+    (λ (h : n + 1 < length s). let k : m ≡ n + 1 = omega arith in subst (λ (j : ℕ). take (length s - j) (drop j s) ≡ drop (n + 1) s) (sym k) (take_all (length s - (n + 1)) (drop (n + 1) s) (omega (arith, length-drop (n + 1) s))))
+    (λ (h : length s ≤ n + 1). let k : length s - m ≡ 0 = omega arith in ap (λ (j : ℕ). take j (drop m s)) k ∙ sym (drop_of_length-le s h))
+    (side (n + 1) (length s))
 
 -- ---- decimal numbers
 
@@ -74,115 +64,100 @@ pub decimal_start : (word : List ℕ) → 0 < length word → decimal_of word �
 decimal_start [] h = let z : ⊥ = omega arith in absurd z
 decimal_start (b ∷ l) h = refl
 
-pub decimal_empty : (word : List ℕ) → length word ≡ 0 → decimal_of word ≡ none
+pub decimal_empty : (word : List ℕ) → length word ≡ 0 → decimal_of word ≡ None
 decimal_empty [] h = refl
 decimal_empty (b ∷ l) h = let z : ⊥ = omega arith in absurd z
 
 module _ (word : List ℕ) (v i : ℕ) where
-  pub decimal_end : length word ≤ i → decimal_from v (drop i word) ≡ some v
+  pub decimal_end : length word ≤ i → decimal_from v (drop i word) ≡ Some v
   unfolding decimal_from
   decimal_end h = rw drop_of_length-le
 
-  pub decimal_more : (d : ℕ) → i < length word → d ≡ digit_of (get_or word i 0) → d < 10 → decimal_from v (drop i word) ≡ decimal_from (v * 10 + d) (drop (i + 1) word)
+  pub decimal_more : i < length word → is_ascii_digit (get_or word i 0) ≡ true
+      → decimal_from v (drop i word) ≡ decimal_from (v * 10 + (get_or word i 0 - 48)) (drop (i + 1) word)
   unfolding decimal_from
-  decimal_more d h e l = rw (e, drop-cons word i 0, lt-ltb (digit_of (get_or word i 0)) 10 (omega arith), add-one)
+  decimal_more h e = rw (drop-cons word i 0, e, add-one)
 
-  pub decimal_other : i < length word → 10 ≤ digit_of (get_or word i 0) → decimal_from v (drop i word) ≡ none
+  pub decimal_other : i < length word → is_ascii_digit (get_or word i 0) ≡ false → decimal_from v (drop i word) ≡ None
   unfolding decimal_from
-  decimal_other h d = rw (drop-cons word i 0, le-ltb _ _ d)
+  decimal_other h e = rw (drop-cons word i 0, e)
 
 -- Once too large, a number stays too large.
-pub decimal_large : (l : List ℕ) (v : ℕ) → 2 ^ 64 ≤ v → below64 (decimal_from v l) ≡ none
+pub decimal_large : (l : List ℕ) (v : ℕ) → 2 ^ 64 ≤ v → below64 (decimal_from v l) ≡ None
 unfolding decimal_from
 decimal_large [] v h = rw (le-ltb v (2 ^ 64) h)
-decimal_large (b ∷ l) v h = go (ltb (digit_of b) 10) (decimal_large l (v * 10 + digit_of b) (omega arith))
+decimal_large (b ∷ l) v h = go (is_ascii_digit b) (decimal_large l (v * 10 + (b - 48)) (omega arith))
   where
-    go : (t : Bool) → below64 (decimal_from (v * 10 + digit_of b) l) ≡ none → below64 (cond t (decimal_from (v * 10 + digit_of b) l) none) ≡ none
+    go : (t : Bool) → below64 (decimal_from (v * 10 + (b - 48)) l) ≡ None → below64 (cond t (decimal_from (v * 10 + (b - 48)) l) None) ≡ None
     go true e = e
     go false e = refl
 
+-- The same of a number that is too large with its next digit.
+pub decimal_over : (word : List ℕ) (v i : ℕ) → i < length word → is_ascii_digit (get_or word i 0) ≡ true → 2 ^ 64 ≤ v * 10 + (get_or word i 0 - 48)
+    → below64 (decimal_from v (drop i word)) ≡ None
+decimal_over word v i h e l = ap below64 (decimal_more word v i h e) ∙ decimal_large (drop (i + 1) word) (v * 10 + (get_or word i 0 - 48)) l
+
 -- ---- byte strings
 
--- No byte string is one.
-abbrev is_some : {A : Type 0} → Option A → Bool
-is_some none = false
-is_some (some x) = true
-
-pub not_some : {A B : Type 0} {x : A} → none ≡ some x → B
-not_some e = absurd (true≢false (sym (ap is_some e)))
-
 pub onto_nothing : (r : Option (List ℕ)) → r ≡ onto [] r
-onto_nothing none = refl
-onto_nothing (some l) = refl
+onto_nothing None = refl
+onto_nothing (Some l) = refl
 
 -- A number that is stored behind those that stand there.
 pub onto_stored : (out : List ℕ) (i x : ℕ) → i < length out → (r : Option (List ℕ)) → onto (take i out) (cons_to x r) ≡ onto (take (i + 1) (set out i x)) r
-onto_stored out i x h none = refl
-onto_stored out i x h (some l) = ap some (sym (append_snoc (take i out) x l) ∙ ap (λ (f : List ℕ). f ++ l) (sym front))
+onto_stored out i x h None = refl
+onto_stored out i x h (Some l) = ap Some (sym (append_snoc (take i out) x l) ∙ ap (λ (f : List ℕ). f ++ l) (sym front))
   where
     front : take (i + 1) (set out i x) ≡ take i out ++ (x ∷ [])
     front = ap (λ (n : ℕ). take n (set out i x)) (add-one i) ∙ take-suc-set out i x h
 
-module _ (high low : ℕ) (r : Option (List ℕ)) where
-  byte_high : 16 ≤ high → byte_then high low r ≡ none
-  byte_high h = rw (le-ltb high 16 h)
+byte_none : (high low : Option ℕ) → byte_then high low None ≡ None
+byte_none None low = refl
+byte_none (Some h) None = refl
+byte_none (Some h) (Some l) = refl
 
-  byte_low : 16 ≤ low → byte_then high low r ≡ none
-  byte_low h = rw (le-ltb low 16 h) (go (ltb high 16))
-    where
-      go : (t : Bool) → ◌≡◌ {A = Option (List ℕ)} (cond t none none) none
-      go true = refl
-      go false = refl
+byte_low : (high : Option ℕ) (r : Option (List ℕ)) → byte_then high None r ≡ None
+byte_low None r = refl
+byte_low (Some h) r = refl
 
-  pub byte_both : high < 16 → low < 16 → byte_then high low r ≡ cons_to (high * 16 + low) r
-  byte_both h l = rw (lt-ltb high 16 h, lt-ltb low 16 l)
-
-byte_none : (high low : ℕ) → byte_then high low none ≡ none
-byte_none high low = go (ltb high 16) (ltb low 16)
-  where
-    go : (s t : Bool) → cond s (cond t (cons_to (high * 16 + low) none) none) none ≡ none
-    go true true = refl
-    go true false = refl
-    go false t = refl
-
-pub hex_odd : (l : List ℕ) → length l % 2 ≡ 1 → hex_of l ≡ none
-unfolding hex_of
-hex_odd [] h = let z : ⊥ = omega arith in absurd z
-hex_odd (a ∷ []) h = refl
-hex_odd (a ∷ b ∷ l) h = ap (byte_then (digit_of a) (digit_of b)) (hex_odd l (omega arith)) ∙ byte_none (digit_of a) (digit_of b)
+pub pairs_odd : (value : ℕ → Option ℕ) (l : List ℕ) → length l % 2 ≡ 1 → pairs_of value l ≡ None
+unfolding pairs_of
+pairs_odd value [] h = let z : ⊥ = omega arith in absurd z
+pairs_odd value (a ∷ []) h = refl
+pairs_odd value (a ∷ b ∷ l) h = ap (byte_then (value a) (value b)) (pairs_odd value l (omega arith)) ∙ byte_none (value a) (value b)
 
 -- The i-th pair of digits.
-module _ (word : List ℕ) (i : ℕ) (h : 2 * i + 1 < length word) where
-  hex_pair : hex_of (drop (2 * i) word) ≡ byte_then (digit_of (get_or word (2 * i) 0)) (digit_of (get_or word (2 * i + 1) 0)) (hex_of (drop (2 * (i + 1)) word))
-  unfolding hex_of
-  hex_pair =
+module _ (value : ℕ → Option ℕ) (word : List ℕ) (i : ℕ) (h : 2 * i + 1 < length word) where
+  pair : pairs_of value (drop (2 * i) word) ≡ byte_then (value (get_or word (2 * i) 0)) (value (get_or word (2 * i + 1) 0)) (pairs_of value (drop (2 * (i + 1)) word))
+  unfolding pairs_of
+  pair =
       let l : 2 * i < length word = omega arith in
-      ap hex_of (drop-cons word (2 * i) 0 l ∙ ap (λ (r : List ℕ). get_or word (2 * i) 0 ∷ r) (ap (λ (n : ℕ). drop n word) (sym (add-one (2 * i))) ∙ drop-cons word (2 * i + 1) 0 h))
-      ∙ ap (λ (n : ℕ). byte_then (digit_of (get_or word (2 * i) 0)) (digit_of (get_or word (2 * i + 1) 0)) (hex_of (drop n word))) (sym (add-one (2 * i + 1)) ∙ (let e : 2 * i + 1 + 1 ≡ 2 * (i + 1) = omega arith in e))
+      ap (pairs_of value) (drop-cons word (2 * i) 0 l ∙ ap (λ (r : List ℕ). get_or word (2 * i) 0 ∷ r) (ap (λ (n : ℕ). drop n word) (sym (add-one (2 * i))) ∙ drop-cons word (2 * i + 1) 0 h))
+      ∙ ap (λ (n : ℕ). byte_then (value (get_or word (2 * i) 0)) (value (get_or word (2 * i + 1) 0)) (pairs_of value (drop n word))) (sym (add-one (2 * i + 1)) ∙ (let e : 2 * i + 1 + 1 ≡ 2 * (i + 1) = omega arith in e))
 
-  pub hex_high : digit_of (get_or word (2 * i) 0) ≡ 16 → (done : List ℕ) → onto done (hex_of (drop (2 * i) word)) ≡ none
-  hex_high e done = ap (onto done) (hex_pair ∙ byte_high (digit_of (get_or word (2 * i) 0)) (digit_of (get_or word (2 * i + 1) 0)) (hex_of (drop (2 * (i + 1)) word)) (omega arith))
+  pub pair_high : None ≡ value (get_or word (2 * i) 0) → (done : List ℕ) → onto done (pairs_of value (drop (2 * i) word)) ≡ None
+  pair_high e done =
+      ap (onto done) (pair ∙ ap (λ (d : Option ℕ). byte_then d (value (get_or word (2 * i + 1) 0)) (pairs_of value (drop (2 * (i + 1)) word))) (sym e))
 
-  pub hex_low : digit_of (get_or word (2 * i + 1) 0) ≡ 16 → (done : List ℕ) → onto done (hex_of (drop (2 * i) word)) ≡ none
-  hex_low e done = ap (onto done) (hex_pair ∙ byte_low (digit_of (get_or word (2 * i) 0)) (digit_of (get_or word (2 * i + 1) 0)) (hex_of (drop (2 * (i + 1)) word)) (omega arith))
+  pub pair_low : None ≡ value (get_or word (2 * i + 1) 0) → (done : List ℕ) → onto done (pairs_of value (drop (2 * i) word)) ≡ None
+  pair_low e done =
+      ap (onto done)
+      (pair
+      ∙ ap (λ (d : Option ℕ). byte_then (value (get_or word (2 * i) 0)) d (pairs_of value (drop (2 * (i + 1)) word))) (sym e)
+      ∙ byte_low (value (get_or word (2 * i) 0)) (pairs_of value (drop (2 * (i + 1)) word)))
 
-  pub hex_next : (out : List ℕ) (a b : ℕ)
+  pub pair_next : (out : List ℕ) (a b : ℕ)
       → i < length out
-      → a ≡ digit_of (get_or word (2 * i) 0)
-      → b ≡ digit_of (get_or word (2 * i + 1) 0)
-      → a < 16
-      → b < 16
-      → onto (take i out) (hex_of (drop (2 * i) word)) ≡ onto (take (i + 1) (set out i (a * 16 + b))) (hex_of (drop (2 * (i + 1)) word))
-  hex_next out a b room ea eb la lb =
-      ap (onto (take i out))
-      (hex_pair
-      ∙ ap₂ (λ (m n : ℕ). byte_then m n (hex_of (drop (2 * (i + 1)) word))) (sym ea) (sym eb)
-      ∙ byte_both a b (hex_of (drop (2 * (i + 1)) word)) la lb)
-      ∙ onto_stored out i (a * 16 + b) room (hex_of (drop (2 * (i + 1)) word))
+      → Some a ≡ value (get_or word (2 * i) 0)
+      → Some b ≡ value (get_or word (2 * i + 1) 0)
+      → onto (take i out) (pairs_of value (drop (2 * i) word)) ≡ onto (take (i + 1) (set out i (a * 16 + b))) (pairs_of value (drop (2 * (i + 1)) word))
+  pair_next out a b room ea eb =
+      ap (onto (take i out)) (pair ∙ ap₂ (λ (m n : Option ℕ). byte_then m n (pairs_of value (drop (2 * (i + 1)) word))) (sym ea) (sym eb))
+      ∙ onto_stored out i (a * 16 + b) room (pairs_of value (drop (2 * (i + 1)) word))
 
-pub hex_end : (word done : List ℕ) (k : ℕ) → length word ≤ k → onto done (hex_of (drop k word)) ≡ some done
-unfolding hex_of
-hex_end word done k h = ap (λ (l : List ℕ). onto done (hex_of l)) (drop_of_length-le word h) ∙ ap some (append-nil done)
+pub pairs_end : (value : ℕ → Option ℕ) (word done : List ℕ) (k : ℕ) → length word ≤ k → onto done (pairs_of value (drop k word)) ≡ Some done
+unfolding pairs_of
+pairs_end value word done k h = ap (λ (l : List ℕ). onto done (pairs_of value l)) (drop_of_length-le word h) ∙ ap Some (append-nil done)
 
 -- Where all cells from i on are as they were, so are those further on.
 drop_further : (out before : List ℕ) (i k : ℕ) → drop i out ≡ drop i before → drop (i + k) out ≡ drop (i + k) before
@@ -202,65 +177,38 @@ refused_free word out before i h e same = (
 )
 
 -- All pairs are read.
-pub hex_done : (word before out : List ℕ) (i n : ℕ)
+pub pairs_done : (value : ℕ → Option ℕ) (word before out : List ℕ) (i n : ℕ)
     → i ≡ n
     → length word ≤ 2 * n
     → n ≤ length out
-    → hex_of word ≡ onto (take i out) (hex_of (drop (2 * i) word))
+    → pairs_of value word ≡ onto (take i out) (pairs_of value (drop (2 * i) word))
     → drop i out ≡ drop i before
     → length out ≡ length before
-    → BytesPost word before (Count n) out
-hex_done word before out i n e l room whole rest same = (
-  subst (λ (k : ℕ). hex_of word ≡ onto (take k out) (hex_of (drop (2 * k) word))) e whole ∙ hex_end word (take n out) (2 * n) l,
+    → PairsPost value word before (Some n) out
+pairs_done value word before out i n e l room whole rest same = (
+  subst (λ (k : ℕ). pairs_of value word ≡ onto (take k out) (pairs_of value (drop (2 * k) word))) e whole ∙ pairs_end value word (take n out) (2 * n) l,
   (subst (λ (k : ℕ). drop k out ≡ drop k before) e rest, same),
   (room, sym (length-take-le n out room)),
 )
 
 -- ---- a read
 
-pub reading_failed : {E : Type 0} (n len : ℕ) {got : Result ℕ E} {x : E} → got ≡ Err x → Done Failed ≡ reading_of n got len
-unfolding reading_of
-reading_failed {E} n len e = ap (λ (r : Result ℕ E). reading_of n r len) (sym e)
-
-module _ {E : Type 0} (n len k : ℕ) {got : Result ℕ E} (e : got ≡ Ok k) where
-  abbrev counted_by : Result ℕ E
-  counted_by = Ok k
-
-  counted_is : reading_of n counted_by len ≡ reading_of n got len
-  counted_is = ap (λ (x : Result ℕ E). reading_of n x len) (sym e)
-
-  pub reading_full : len ≤ n + k → Done Full ≡ reading_of n got len
-  unfolding reading_of
-  reading_full full = sym (rw (le-ltb (n + k) len full)) ∙ counted_is
-
-  pub reading_all : n + k < len → k ≡ 0 → Done (All n) ≡ reading_of n got len
-  unfolding reading_of
-  reading_all room end = sym (rw (lt-ltb (n + k) len room) (ap (λ (j : ℕ). so_far j n) end)) ∙ counted_is
-
-  pub reading_more : n + k < len → 0 < k → More (n + k) ≡ reading_of n got len
-  unfolding reading_of
-  reading_more room came = sym (rw (lt-ltb (n + k) len room) (next k came)) ∙ counted_is
-    where
-      next : (k : ℕ) → 0 < k → so_far k n ≡ More (n + k)
-      next zero h = let z : ⊥ = omega arith in absurd z
-      next (suc k) h = refl
-
 -- More bytes than before have come, and the buffer has room for others; or what is known of the stream is what `read_all` promises.
-abbrev pub Goes : ℕ → List ℕ → Reading → Type 0
-Goes n buf (More m) = (n < m) × (m < length buf)
-Goes n buf (Done stream) = StreamPost buf stream
+abbrev pub Goes : ℕ → List ℕ → ControlFlow Stream ℕ → Type 0
+Goes n buf (Continue m) = (n < m) × (m < length buf)
+Goes n buf (Break stream) = StreamPost buf stream
 
 reading_goes : {E : Type 0} (buf : List ℕ) (n : ℕ) (got : Result ℕ E) → Goes n buf (reading_of n got (length buf))
 unfolding reading_of
 reading_goes buf n (Err e) = tt
 reading_goes buf n (Ok k) = go k (ltb (n + k) (length buf)) refl
   where
-    go : (k : ℕ) (t : Bool) → ltb (n + k) (length buf) ≡ t → Goes n buf (cond t (so_far k n) (Done Full))
+    go : (k : ℕ) (t : Bool) → ltb (n + k) (length buf) ≡ t → Goes n buf (cond t (so_far k n) (Break (Err Full)))
     go zero true e = let h = ltb-true (n + 0) (length buf) e in (omega arith, (omega arith, sym (length-take-le n buf (omega arith))))
     go (suc k) true e = (omega arith, ltb-true (n + suc k) (length buf) e)
     go k false e = tt
 
-pub reading_next : {E : Type 0} (buf : List ℕ) (n : ℕ) (got : Result ℕ E) {r s : Reading} → r ≡ s → r ≡ reading_of n got (length buf) → Goes n buf s
+pub reading_next : {E : Type 0} (buf : List ℕ) (n : ℕ) (got : Result ℕ E) {r s : ControlFlow Stream ℕ} → r ≡ s → r ≡ reading_of n got (length buf) → Goes n buf s
 reading_next buf n got e h = subst (Goes n buf) (sym h ∙ e) (reading_goes buf n got)
 
 -- What is known of a stream that was read.
@@ -269,8 +217,5 @@ arrived_stream buf r e = subst (Goes r.before buf) e (reading_goes buf r.before 
 
 -- ---- for callers: the front that an answer counts
 
-pub counted : (word out after : List ℕ) (r : Bytes) (n : ℕ) → r ≡ Count n → BytesPost word out r after → IsPrefixLen n after
-counted word out after r n e p = (subst (λ (x : Bytes). BytesPost word out x after) e p).2
-
-pub streamed : (buf : List ℕ) (r : Stream) (n : ℕ) → r ≡ All n → StreamPost buf r → IsPrefixLen n buf
+pub streamed : (buf : List ℕ) (r : Stream) (n : ℕ) → r ≡ Ok n → StreamPost buf r → IsPrefixLen n buf
 streamed buf r n e p = (subst (StreamPost buf) e p).1

@@ -3,5 +3,3 @@ pub mod InputLaws
 pub mod OutputLaws
 pub mod RoundTrip
 pub mod TextLaws
-pub mod NumberLaws
-pub mod Powers

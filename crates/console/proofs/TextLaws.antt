@@ -3,200 +3,127 @@ use Prim.Native.Nat.{ℕ, zero, suc, ◌+◌, ◌-◌, ◌^◌, ◌<◌, ◌≤�
 use native.Mathlib.Omega.{arith}
 use mathlib.Core.Path.{◌≡◌, refl, sym, ap, ap₂, ◌∙◌, subst}
 use mathlib.Core.List.{List, [], ◌∷◌, append-nil}
-use mathlib.Core.Bool.{Bool, true, false, cond}
-use mathlib.Core.Option.{Option, none, some}
+use mathlib.Core.Bool.{Bool, true, false, cond, true≢false}
 use lib.Dec.{ltb}
-use lib.ListN.{length, set, take, drop, get_or, length-drop, drop_of_length-le}
-use lib.Seq.{length-take-le, drop-cons, drop-drop}
-use borrow.Author.Tests.{le-ltb, ltb-false, eq-eqb, ne_eqb}
+use lib.ListN.{length, set, take, drop, get_or, length-drop}
+use lib.Seq.{length-take-le}
+use Rattle.std.proofs.lemmas.List.{length-take}
+use borrow.Author.Tests.{le-ltb, ltb-false, ne_eqb}
+use Rattle.std.specs.Prelude.{Option, Some, None, is_some, IfSome}
 use Rattle.std.specs.Counts.{IsPrefixLen}
-use Rattle.console.specs.declared.input.Number.{Number}
-use Rattle.console.specs.declared.input.Number.TheVariants.{Value as NumberValue, Other as NumberOther}
-use Rattle.console.specs.declared.text.Value.{Value}
-use Rattle.console.specs.declared.text.Value.TheVariants.{Is, Other as ValueOther}
-use Rattle.console.specs.declared.text.Listed.{Listed}
-use Rattle.console.specs.declared.text.Listed.TheVariants.{Count}
-use Rattle.console.specs.Input.{up_to, decimal_of, below64, number_means, onto}
-use Rattle.console.specs.Text.{words_from, word_of, WordStart, below32, value_means, or_zero, value_then, values_in, list_in, ListedPost}
-use Rattle.console.proofs.InputLaws.{not_some, onto_nothing, onto_stored}
+use Rattle.console.specs.Input.{up_to, PieceOf, decimal_of, below64, onto, PairsPost}
+use Rattle.console.specs.Text.{words_from, below32, value_then, values_in, list_in, ListedPost}
+use Rattle.console.proofs.InputLaws.{onto_nothing, onto_stored}
 
 -- ---- counts
 
 pub front : (n : ℕ) (out : List ℕ) → n ≤ length out → IsPrefixLen n out
 front n out h = (h, sym (length-take-le n out h))
 
-pub listed : (l : Option (List ℕ)) (word before out : List ℕ) (r : Listed) (n : ℕ) → r ≡ Count n → ListedPost l word before r out → IsPrefixLen n out
-listed l word before out r n e p = (subst (λ (x : Listed). ListedPost l word before x out) e p).2
+pub pairs_inside : (value : ℕ → Option ℕ) (word out after : List ℕ) (r : Option ℕ) → PairsPost value word out r after → IfSome r (λ n. n ≤ length after)
+pairs_inside value word out after None p = tt
+pairs_inside value word out after (Some n) p = p.2.0
+
+pub listed_inside : (l : Option (List ℕ)) (word before out : List ℕ) (r : Option ℕ) → ListedPost l word before r out → IfSome r (λ n. n ≤ length out)
+listed_inside l word before out None p = tt
+listed_inside l word before out (Some n) p = p.2.0
 
 -- ---- words
 
--- Past the end nothing is left, however far.
-pub nothing_left : (line : List ℕ) (end : ℕ) → length line ≤ end → drop end line ≡ drop (end + 1) line
-nothing_left line end h = let past : length line ≤ end + 1 = omega arith in drop_of_length-le line h ∙ sym (drop_of_length-le line past)
-
-pub words_more : (k : ℕ) (l : List ℕ) → 0 < k → words_from k l ≡ words_from (k - 1) (drop (up_to 32 l + 1) l)
-unfolding words_from
-words_more zero l h = let z : ⊥ = omega arith in absurd z
-words_more (suc k) l h = ap (λ (n : ℕ). words_from n (drop (up_to 32 l + 1) l)) (let e : k ≡ suc k - 1 = omega arith in e)
-
 -- A word further on: the next one starts behind the blank.
-pub words_next : (line : List ℕ) (k start end next : ℕ)
-    → 0 < k
-    → end ≡ start + up_to 32 (drop start line)
-    → drop next line ≡ drop (end + 1) line
-    → words_from k (drop start line) ≡ words_from (k - 1) (drop next line)
-words_next line k start end next h e n =
-    words_more k (drop start line) h
-    ∙ ap (words_from (k - 1))
-    (drop-drop (up_to 32 (drop start line) + 1) start line
-    ∙ ap (λ (m : ℕ). drop m line) (let s : start + (up_to 32 (drop start line) + 1) ≡ end + 1 = omega arith in s)
-    ∙ sym n)
+pub words_turn : (k i : ℕ) (line rest next : List ℕ) → i < k → words_from k line ≡ words_from (k - i) rest → next ≡ drop (up_to 32 rest + 1) rest
+    → words_from k line ≡ words_from (k - (i + 1)) next
+unfolding words_from
+words_turn k i line rest next h whole e = whole ∙ go (k - i) (omega arith) ∙ ap (λ (n : ℕ). words_from n next) (let m : k - i - 1 ≡ k - (i + 1) = omega arith in m)
+  where
+    go : (n : ℕ) → 0 < n → words_from n rest ≡ words_from (n - 1) next
+    go zero z = absurd (let f : ⊥ = omega arith in f)
+    go (suc n) z = ap₂ words_from (let m : n ≡ suc n - 1 = omega arith in m) (sym e)
 
-words_done : (l : List ℕ) → words_from 0 l ≡ l
+pub words_done : (l : List ℕ) → words_from 0 l ≡ l
 unfolding words_from
 words_done l = refl
 
-pub words_start : (line : List ℕ) (k : ℕ) → words_from k line ≡ words_from (k - 0) (drop 0 line)
-words_start line k = ap (λ (n : ℕ). words_from n line) (let e : k ≡ k - 0 = omega arith in e)
-
-module _ (line : List ℕ) (k i start : ℕ) (whole : words_from k line ≡ words_from (k - i) (drop start line)) where
-  pub words_turn : (end next : ℕ)
-      → i < k
-      → end ≡ start + up_to 32 (drop start line)
-      → drop next line ≡ drop (end + 1) line
-      → words_from k line ≡ words_from (k - (i + 1)) (drop next line)
-  words_turn end next h e n =
-      whole
-      ∙ words_next line (k - i) start end next (omega arith) e n
-      ∙ ap (λ (m : ℕ). words_from m (drop next line)) (let m : k - i - 1 ≡ k - (i + 1) = omega arith in m)
-
-  pub words_end : k ≤ i → start ≤ length line → WordStart line k start
-  words_end h inside = record {
-    inside = inside;
-    rest = sym (whole ∙ ap (λ (m : ℕ). words_from m (drop start line)) (let m : k - i ≡ 0 = omega arith in m) ∙ words_done (drop start line));
-  }
-
-pub word_part : (line : List ℕ) (k start end : ℕ)
-    → WordStart line k start
-    → end ≡ start + up_to 32 (drop start line)
-    → take (end - start) (drop start line) ≡ word_of k line
-word_part line k start end w e =
-    ap (λ (n : ℕ). take n (drop start line)) (let n : end - start ≡ up_to 32 (drop start line) = omega arith in n)
-    ∙ ap (λ (l : List ℕ). take (up_to 32 l) l) w.rest
-
 -- ---- numbers of 32 bits
 
-same_number : (o : Option ℕ) (v : ℕ) → some v ≡ below64 o → some v ≡ o
-same_number none v e = not_some (sym e)
-same_number (some w) v e = go (ltb w (2 ^ 64)) e
+-- One that 64 bits do not hold, 32 do not hold.
+pub no_number : (o : Option ℕ) → None ≡ below64 o → None ≡ below32 o
+no_number None e = refl
+no_number (Some w) e = go (ltb w (2 ^ 64)) refl e
   where
-    go : (t : Bool) → some v ≡ cond t (some w) none → some v ≡ some w
-    go true e = e
-    go false e = not_some (sym e)
-
-no_number : (o : Option ℕ) → none ≡ below64 o → none ≡ below32 o
-no_number none e = refl
-no_number (some w) e = go (ltb w (2 ^ 64)) refl e
-  where
-    go : (t : Bool) → ltb w (2 ^ 64) ≡ t → none ≡ cond t (some w) none → none ≡ below32 (some w)
-    go true e n = not_some n
+    go : (t : Bool) → ltb w (2 ^ 64) ≡ t → None ≡ cond t (Some w) None → None ≡ below32 (Some w)
+    go true e n = search
     go false e n = rw (le-ltb w (2 ^ 32) (omega (arith, ltb-false w (2 ^ 64) e)))
 
-pub value_read : (o : Option ℕ) (r : Number) (v : ℕ) (x : Value)
-    → r ≡ NumberValue v
-    → number_means r ≡ below64 o
-    → value_means x ≡ below32 (some v)
-    → value_means x ≡ below32 o
-value_read o r v x e n m = m ∙ ap below32 (same_number o v (ap number_means (sym e) ∙ n))
-
-pub value_none : (o : Option ℕ) (r : Number) → r ≡ NumberOther → number_means r ≡ below64 o → none ≡ below32 o
-value_none o r e n = no_number o (ap number_means (sym e) ∙ n)
-
--- The number that was read, or 0.
-pub or_zero_lem : (o : Option ℕ) (r x : Value) → r ≡ x → value_means r ≡ o → or_zero (value_means x) ≡ or_zero o
-or_zero_lem o r x e n = ap or_zero (ap value_means (sym e) ∙ n)
-
-pub number_or_zero : (o : Option ℕ) (r x : Number) → r ≡ x → number_means r ≡ o → or_zero (number_means x) ≡ or_zero o
-number_or_zero o r x e n = ap or_zero (ap number_means (sym e) ∙ n)
+pub some_number : (o : Option ℕ) (v : ℕ) → Some v ≡ below64 o → Some v ≡ o
+some_number None v e = search
+some_number (Some w) v e = go (ltb w (2 ^ 64)) e
+  where
+    go : (t : Bool) → Some v ≡ cond t (Some w) None → Some v ≡ Some w
+    go true e = e
+    go false e = search
 
 -- ---- lists
 
-values_none : (room : ℕ) → values_in room [] ≡ some []
+values_none : (room : ℕ) → values_in room [] ≡ Some []
 unfolding values_in
 values_none zero = refl
 values_none (suc room) = refl
 
-values_more : (room : ℕ) (l : List ℕ) → 0 < room → 0 < length l
-    → values_in room l ≡ value_then (below32 (decimal_of (take (up_to 44 l) l))) (values_in (room - 1) (drop (up_to 44 l + 1) l))
-unfolding values_in
-values_more zero l r h = absurd (let z : ⊥ = omega arith in z)
-values_more (suc room) [] r h = absurd (let z : ⊥ = omega arith in z)
-values_more (suc room) (b ∷ l) r h =
-    ap (λ (n : ℕ). value_then (below32 (decimal_of (take (up_to 44 (b ∷ l)) (b ∷ l)))) (values_in n (drop (up_to 44 (b ∷ l) + 1) (b ∷ l))))
-    (let e : room ≡ suc room - 1 = omega arith in e)
-
-pub values_start : (word out : List ℕ) (room : ℕ) → values_in room word ≡ onto (take 0 out) (values_in (room - 0) (drop 0 word))
-values_start word out room = onto_nothing (values_in room word) ∙ ap (λ (n : ℕ). onto [] (values_in n word)) (let e : room ≡ room - 0 = omega arith in e)
+pub values_start : (word rest : List ℕ) (room : ℕ) → rest ≡ word → values_in room word ≡ onto [] (values_in (room - 0) rest)
+values_start word rest room e = onto_nothing (values_in room word) ∙ ap (onto []) (ap₂ values_in (let z : room ≡ room - 0 = omega arith in z) (sym e))
 
 -- A number that was read has a byte at least.
-pub value_long : (l : List ℕ) (k v : ℕ) (r : Value) → r ≡ Is v → value_means r ≡ below32 (decimal_of (take k l)) → 0 < k
-value_long l zero v r o m = not_some (sym (ap value_means (sym o) ∙ m))
-value_long l (suc k) v r o m = omega arith
+pub value_long : (piece : List ℕ) (v : ℕ) → Some v ≡ below32 (decimal_of piece) → 0 < length piece
+value_long [] v e = absurd (true≢false (ap is_some e))
+value_long (b ∷ l) v e = omega arith
 
--- What is left of a word from `at` on, where n values stand at the front of `out`.
-module _ (word out : List ℕ) (room n at : ℕ) (whole : values_in room word ≡ onto (take n out) (values_in (room - n) (drop at word))) where
+-- So what is left is shorter by two bytes, where any is.
+pub value_left : (rest piece next : List ℕ) (v : ℕ) → PieceOf 44 rest piece next → Some v ≡ below32 (decimal_of piece) → 0 < length next → length next + 2 ≤ length rest
+value_left rest piece next v p e h =
+    omega (arith, value_long piece v e, ap length p.first, ap length p.behind, length-take (up_to 44 rest) rest, length-drop (up_to 44 rest + 1) rest)
+
+-- What is left of a word, where n values stand at the front of `out`.
+module _ (out whole rest : List ℕ) (room n : ℕ) (so_far : values_in room whole ≡ onto (take n out) (values_in (room - n) rest)) where
   -- Bytes are left, and there is no more room.
-  pub values_full : at < length word → room ≤ n → values_in room word ≡ none
+  pub values_full : 0 < length rest → room ≤ n → values_in room whole ≡ None
   unfolding values_in
-  values_full h l =
-      whole ∙ ap₂ (λ (k : ℕ) (rest : List ℕ). onto (take n out) (values_in k rest)) (let e : room - n ≡ 0 = omega arith in e) (drop-cons word at 0 h)
+  values_full h l = so_far ∙ ap (λ (k : ℕ). onto (take n out) (values_in k rest)) (let e : room - n ≡ 0 = omega arith in e) ∙ go rest h
+    where
+      go : (l : List ℕ) → 0 < length l → onto (take n out) (values_in 0 l) ≡ None
+      go [] h = absurd (let f : ⊥ = omega arith in f)
+      go (b ∷ l) h = refl
 
-  next : (end : ℕ) → at < length word → n < room → end ≡ at + up_to 44 (drop at word)
-      → values_in room word
-      ≡ onto (take n out) (value_then (below32 (decimal_of (take (end - at) (drop at word)))) (values_in (room - (n + 1)) (drop (end + 1) word)))
-  next end h l e =
-      let k = up_to 44 (drop at word) in
-      whole
-      ∙ ap (onto (take n out))
-      (values_more (room - n) (drop at word) (omega arith) (omega (arith, length-drop at word))
-      ∙ ap₂ (λ (i j : ℕ). value_then (below32 (decimal_of (take i (drop at word)))) (values_in j (drop (k + 1) (drop at word))))
-      (let z : k ≡ end - at = omega arith in z) (let z : room - n - 1 ≡ room - (n + 1) = omega arith in z)
-      ∙ ap (λ (rest : List ℕ). value_then (below32 (decimal_of (take (end - at) (drop at word)))) (values_in (room - (n + 1)) rest))
-      (drop-drop (k + 1) at word ∙ ap (λ (i : ℕ). drop i word) (let z : at + (k + 1) ≡ end + 1 = omega arith in z)))
+  after : (piece next : List ℕ) → PieceOf 44 rest piece next → n < room → values_in room whole ≡ onto (take n out) (value_then (below32 (decimal_of piece)) (values_in (room - (n + 1)) next))
+  unfolding values_in
+  after piece next p l = so_far ∙ ap (onto (take n out)) (go (room - n) rest (omega arith) p.more ∙ ap₂ (λ (w : List ℕ) (r : Option (List ℕ)). value_then (below32 (decimal_of w)) r) (sym p.first) (ap₂ values_in (let e : room - n - 1 ≡ room - (n + 1) = omega arith in e) (sym p.behind)))
+    where
+      go : (k : ℕ) (l : List ℕ) → 0 < k → 0 < length l → values_in k l ≡ value_then (below32 (decimal_of (take (up_to 44 l) l))) (values_in (k - 1) (drop (up_to 44 l + 1) l))
+      go zero l r h = absurd (let f : ⊥ = omega arith in f)
+      go (suc k) [] r h = absurd (let f : ⊥ = omega arith in f)
+      go (suc k) (b ∷ l) r h =
+          ap (λ (j : ℕ). value_then (below32 (decimal_of (take (up_to 44 (b ∷ l)) (b ∷ l)))) (values_in j (drop (up_to 44 (b ∷ l) + 1) (b ∷ l))))
+          (let e : k ≡ suc k - 1 = omega arith in e)
 
   -- The next word is no number.
-  pub values_other : (end : ℕ) (r : Value) → at < length word → n < room → end ≡ at + up_to 44 (drop at word)
-      → r ≡ ValueOther
-      → value_means r ≡ below32 (decimal_of (take (end - at) (drop at word)))
-      → values_in room word ≡ none
-  values_other end r h l e o m =
-      next end h l e
-      ∙ ap (λ (v : Option ℕ). onto (take n out) (value_then v (values_in (room - (n + 1)) (drop (end + 1) word)))) (sym (ap value_means (sym o) ∙ m))
+  pub values_other : (piece next : List ℕ) → PieceOf 44 rest piece next → n < room → None ≡ below32 (decimal_of piece) → values_in room whole ≡ None
+  values_other piece next p l e = after piece next p l ∙ ap (λ (v : Option ℕ). onto (take n out) (value_then v (values_in (room - (n + 1)) next))) (sym e)
 
   -- The next word is a number, and is stored.
-  pub values_turn : (end v : ℕ) (r : Value) → at < length word → n < room → n < length out → end ≡ at + up_to 44 (drop at word)
-      → r ≡ Is v
-      → value_means r ≡ below32 (decimal_of (take (end - at) (drop at word)))
-      → values_in room word ≡ onto (take (n + 1) (set out n v)) (values_in (room - (n + 1)) (drop (end + 1) word))
-  values_turn end v r h l inside e o m =
-      next end h l e
-      ∙ ap (λ (x : Option ℕ). onto (take n out) (value_then x (values_in (room - (n + 1)) (drop (end + 1) word)))) (sym (ap value_means (sym o) ∙ m))
-      ∙ onto_stored out n v inside (values_in (room - (n + 1)) (drop (end + 1) word))
+  pub values_turn : (piece next : List ℕ) → PieceOf 44 rest piece next → n < room → n < length out → (v : ℕ) → Some v ≡ below32 (decimal_of piece)
+      → values_in room whole ≡ onto (take (n + 1) (set out n v)) (values_in (room - (n + 1)) next)
+  values_turn piece next p l inside v e =
+      after piece next p l
+      ∙ ap (λ (x : Option ℕ). onto (take n out) (value_then x (values_in (room - (n + 1)) next))) (sym e)
+      ∙ onto_stored out n v inside (values_in (room - (n + 1)) next)
 
   -- No bytes are left.
-  pub values_end : length word ≤ at → values_in room word ≡ some (take n out)
-  values_end h =
-      whole
-      ∙ ap (onto (take n out)) (ap (values_in (room - n)) (drop_of_length-le word h) ∙ values_none (room - n))
-      ∙ ap some (append-nil (take n out))
-
-pub list_none : (word : List ℕ) (room : ℕ) → length word ≡ 0 → list_in room word ≡ none
-list_none [] room h = refl
-list_none (b ∷ l) room h = absurd (let z : ⊥ = omega arith in z)
-
-pub list_point : (word : List ℕ) (room : ℕ) → 0 < length word → get_or word 0 0 ≡ 46 → list_in room word ≡ some []
-list_point [] room h e = absurd (let z : ⊥ = omega arith in z)
-list_point (b ∷ l) room h e = rw (eq-eqb b 46 e)
+  pub values_end : length rest ≡ 0 → values_in room whole ≡ Some (take n out)
+  values_end h = so_far ∙ ap (onto (take n out)) (go rest h) ∙ ap Some (append-nil (take n out))
+    where
+      go : (l : List ℕ) → length l ≡ 0 → values_in (room - n) l ≡ Some []
+      go [] h = values_none (room - n)
+      go (b ∷ l) h = absurd (let f : ⊥ = omega arith in f)
 
 pub list_values : (word : List ℕ) (room : ℕ) → 0 < length word → (get_or word 0 0 ≡ 46 → ⊥) → values_in room word ≡ list_in room word
 list_values [] room h n = absurd (let z : ⊥ = omega arith in z)

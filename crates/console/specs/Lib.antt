@@ -2,5 +2,3 @@
 pub mod Input
 pub mod Output
 pub mod Text
-pub mod Numbers
-pub mod Digits

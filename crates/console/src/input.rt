@@ -1,90 +1,58 @@
 // Reading a stream into a buffer, then lines, words, numbers and byte strings.
-ghost use Rattle.std.specs.Prelude.{◌≡◌, ◌≤◌, ◌<◌};
-ghost use Rattle.console.specs.Input.{DigitPost, FindPost, NumberPost, BytesPost, reading_of, ReadPost, CasesPost};
+ghost use Rattle.std.specs.Prelude.{◌≡◌, ◌<◌, ◌≤◌, ◌+◌, ℕ, Option, length, take, drop, MatchOption, IfSome, ⊤};
+ghost use Rattle.std.specs.Iterator.{at_most};
+ghost use Rattle.console.specs.Input.{reading_of, ReadPost, CasesPost, up_to, PieceOf, digit_of, decimal_of, below64, Digits, Gives, PairsPost};
 
-use crate::output::complain;
 use std::io;
-use std::io::{Read, Stderr, Stdin};
+use std::io::{Print, Read};
+use std::ops::ControlFlow;
 
-// A stream that was read: the whole of it, which has this many bytes; or a read failed; or the buffer is full, and there may be more.
-#[derive(Clone, Copy)]
-pub enum Stream {
-    All(usize),
+// Why a stream is not all there: a read failed; or the buffer is full, and there may be more.
+#[derive(Clone, Copy, Debug, PartialEq, Eq)]
+pub enum StreamError {
     Failed,
     Full,
 }
 
-// A stream that was read, and the read that ended it: how many bytes had come before it, and what it answered.
+// A stream that was read: how many bytes the whole of it has, or why it is not all there. And the read that ended it: how many bytes had come before it, and
+// what it answered.
 #[derive(Clone, Copy)]
 pub struct Arrived {
-    pub stream: Stream,
+    pub stream: Result<usize, StreamError>,
     pub before: usize,
     pub got: io::Result<usize>,
 }
 
-// What is known after a read: this many bytes have come, and more may; or reading is done.
-#[derive(Clone, Copy)]
-pub enum Reading {
-    More(usize),
-    Done(Stream),
-}
-
-// A number, or a word that is none or does not fit.
-#[derive(Clone, Copy)]
-pub enum Number {
-    Value(u64),
-    Other,
-}
-
-// How many bytes were put, or a word that is no byte string, or one too long for the buffer.
-#[derive(Clone, Copy)]
-pub enum Bytes {
-    Count(usize),
-    Other,
-}
-
-// n bytes of a buffer of `len` have come, and one more read, into the rest of it, has answered `got`. A failed read is told apart from the end, and
-// a buffer that is full from a stream that is all there.
-pub fn after_read(n: usize, got: io::Result<usize>, len: usize) -> Reading
+// n bytes of a buffer of `len` have come, and one more read, into the rest of it, has answered `got`. So many bytes have come now, and more may; or reading is
+// done. A failed read is told apart from the end, and a buffer that is full from a stream that is all there.
+#[tactic(auto, unfolding(crate::specs::Input::reading_of))]
+pub fn after_read(
+    n: usize,
+    got: io::Result<usize>,
+    len: usize,
+) -> ControlFlow<Result<usize, StreamError>, usize>
     ensures { result ≡ reading_of n got len }
 {
-    let Ok(k) = got else {
-        return Reading::Done(Stream::Failed);
-    };
-    if len <= n {
-        return Reading::Done(Stream::Full);
+    match got {
+        Err(_) => ControlFlow::Break(Err(StreamError::Failed)),
+        Ok(k) if len.saturating_sub(n) <= k => ControlFlow::Break(Err(StreamError::Full)),
+        Ok(0) => ControlFlow::Break(Ok(n)),
+        Ok(k) => ControlFlow::Continue(n + k),
     }
-    if len - n <= k {
-        return Reading::Done(Stream::Full);
-    }
-    if k == 0 {
-        return Reading::Done(Stream::All(n));
-    }
-    Reading::More(n + k)
 }
 
-// Where a read from n on ends: at most 16,384 bytes are read at once, so that a longer file goes round the loop of `read_all` as a pipe does.
-fn piece_end(n: usize, len: usize) -> usize
-    requires { n ≤ len }
-    ensures { (n ≤ result) × (result ≤ len) × (n < len → n < result) }
-{
-    if len - n <= 16384 {
-        return len;
-    }
-    n + 16384
-}
-
-// Reads to the end. What a read puts into the buffer, and that the answer that is handed on is a read's, no contract reaches: so little else stands here.
-pub fn read_all<R: Read>(reader: &mut R, buf: &mut [u8]) -> Arrived
+// Reads to the end, at most 16,384 bytes at once, so that a longer file goes round the loop as a pipe does. What a read puts into the buffer, and that the
+// answer that is handed on is a read's, no contract reaches: so little else stands here.
+pub fn read_all(reader: &mut impl Read, buf: &mut [u8]) -> Arrived
     ensures { ReadPost buf.old result buf.new }
 {
     let mut n: usize = 0;
     loop {
-        let end = piece_end(n, buf.len());
+        let end = n + (buf.len() - n).min(16384);
         let got = reader.read(&mut buf[n..end]);
         match after_read(n, got, buf.len()) {
-            Reading::More(m) => n = m,
-            Reading::Done(stream) => {
+            ControlFlow::Continue(m) => n = m,
+            ControlFlow::Break(stream) => {
                 return Arrived {
                     stream,
                     before: n,
@@ -96,104 +64,122 @@ pub fn read_all<R: Read>(reader: &mut R, buf: &mut [u8]) -> Arrived
 }
 
 // The cases that a program replays: how many bytes of standard input. Where it cannot be read to its end there are none, and the program says so.
-pub fn read_cases(mut stdin: Stdin, stderr: Stderr, program: &[u8], buf: &mut [u8]) -> usize
+pub fn read_cases(
+    stdin: &mut impl Read,
+    stderr: &impl Print,
+    program: &str,
+    buf: &mut [u8],
+) -> usize
     ensures { CasesPost buf.old result buf.new }
 {
-    let r = read_all(&mut stdin, buf);
-    let stream = r.stream;
-    let Stream::All(n) = stream else {
-        complain(stderr, program);
-        complain(stderr, b": standard input cannot be read, or is too long\n");
-        return 0;
-    };
-    n
-}
-
-// The position of the first byte b from `start` on, or the end.
-pub fn find(s: &[u8], start: usize, b: u8) -> usize
-    ensures { FindPost s.now start b result }
-{
-    let mut i = start;
-    while i < s.len() {
-        if s[i] == b {
-            return i;
+    match read_all(stdin, buf).stream {
+        Ok(n) => n,
+        Err(_) => {
+            let _ = println!(stderr; "{program}: standard input cannot be read, or is too long");
+            0
         }
-        i += 1;
-    }
-    i
-}
-
-// The value of a hexadecimal digit in lower case, 16 for any other byte.
-pub fn digit(b: u8) -> u8
-    ensures { DigitPost b result }
-{
-    if b < 48 {
-        16
-    } else if b < 58 {
-        b - 48
-    } else if b < 97 {
-        16
-    } else if b < 103 {
-        b - 87
-    } else {
-        16
     }
 }
 
-// A digit as a wider number, with the bound.
-fn wide(d: u8) -> u64
-    requires { d ≤ 16 }
-    ensures { (result ≡ d) × (result ≤ 16) }
+// The bytes before the first b, or all of them, and those behind it.
+pub fn cut(s: &[u8], b: u8) -> (&[u8], &[u8])
+    ensures first { result.0.now ≡ take (up_to b s.now) s.now }
+    ensures rest { result.1.now ≡ drop (up_to b s.now + 1) s.now }
 {
-    d as u64
+    let n = s.iter().position(|&x| x == b).unwrap_or(s.len());
+    (&s[..n], &s[(n + 1).min(s.len())..])
+}
+
+// The pieces of a text, each up to the next `end`. Behind the last `end` there is none, unless bytes follow.
+#[derive(Clone, Copy)]
+pub struct Pieces<'a> {
+    rest: &'a [u8],
+    end: u8,
+}
+
+impl<'a> Pieces<'a> {
+    pub fn new(text: &'a [u8], end: u8) -> Pieces<'a>
+        ensures { (result.rest.now ≡ text.now) × (result.end ≡ end) }
+    {
+        Pieces { rest: text, end }
+    }
+}
+
+impl<'a> Iterator for Pieces<'a> {
+    type Item = &'a [u8];
+
+    ghost can_next = { λ _. ⊤ };
+
+    ghost next_gives = { λ s r t. (t.end ≡ s.end) × MatchOption r ((length s.rest.now ≡ 0) × (t ≡ s)) (λ x. PieceOf s.end s.rest.now x.now t.rest.now) };
+
+    ghost remaining = { λ s. at_most (length s.rest.now) };
+
+    fn next(&mut self) -> Option<&'a [u8]> {
+        if self.rest.is_empty() {
+            return None;
+        }
+        let (piece, rest) = cut(self.rest, self.end);
+        self.rest = rest;
+        Some(piece)
+    }
+}
+
+// The value of a hexadecimal digit in lower case.
+#[tactic(auto, unfolding(crate::specs::Input::digit_of))]
+pub fn digit(b: u8) -> Option<u8>
+    ensures value { result ≡ digit_of b }
+    ensures small { IfSome result (λ d. d < 16) }
+{
+    match b {
+        b'0'..=b'9' => Some(b - b'0'),
+        b'a'..=b'f' => Some(b - b'a' + 10),
+        _ => None,
+    }
 }
 
 // A decimal number below 2^64, which is the whole word.
-pub fn read_number(word: &[u8]) -> Number
-    ensures { NumberPost word.now result }
+pub fn read_number(word: &[u8]) -> Option<u64>
+    ensures { result ≡ below64 (decimal_of word.now) }
 {
-    if word.len() == 0 {
-        return Number::Other;
+    if word.is_empty() {
+        return None;
     }
     let mut v: u64 = 0;
-    let mut i: usize = 0;
-    while i < word.len() {
-        let d = wide(digit(word[i]));
-        if 10 <= d {
-            return Number::Other;
+    for &b in word {
+        if !b.is_ascii_digit() {
+            return None;
         }
-        if (0xffff_ffff_ffff_ffff - d) / 10 < v {
-            return Number::Other;
-        }
-        v = v * 10 + d;
-        i += 1;
+        v = v.checked_mul(10)?.checked_add(u64::from(b - b'0'))?;
     }
-    Number::Value(v)
+    Some(v)
 }
 
-// A byte string in hexadecimal, which is the whole word, put at the front of `out`.
-pub fn read_bytes(word: &[u8], out: &mut [u8]) -> Bytes
-    ensures { BytesPost word.now out.old result out.new }
+// A byte string of two digits to a byte, which is the whole word, put at the front of `out`. The answer is how many bytes there are.
+pub fn read_pairs<F: Fn(u8) -> Option<u8> + Drop>(
+    word: &[u8],
+    digit: F,
+    out: &mut [u8],
+) -> Option<usize>
+    requires callable { F.IsAlwaysCallable digit }
+    requires small { Digits (F.post digit) }
+    ensures { (value : ℕ → Option ℕ) → Gives (F.post digit) value → PairsPost value word.now out.old result out.new }
 {
     let n = word.len() / 2;
-    if out.len() < n {
-        return Bytes::Other;
+    if out.len() < n || word.len() % 2 == 1 {
+        return None;
     }
-    if word.len() % 2 == 1 {
-        return Bytes::Other;
-    }
-    let mut i: usize = 0;
-    while i < n {
-        let high = digit(word[2 * i]);
-        let low = digit(word[2 * i + 1]);
-        if high == 16 {
-            return Bytes::Other;
-        }
-        if low == 16 {
-            return Bytes::Other;
-        }
+    for i in 0..n {
+        let high = digit(word[2 * i])?;
+        let low = digit(word[2 * i + 1])?;
         out[i] = high * 16 + low;
-        i += 1;
     }
-    Bytes::Count(n)
+    Some(n)
+}
+
+// A byte string in hexadecimal.
+pub fn read_bytes(word: &[u8], out: &mut [u8]) -> Option<usize>
+    ensures post { PairsPost digit_of word.now out.old result out.new }
+    ensures inside { IfSome result (λ n. n ≤ length out.new) }
+{
+    read_pairs(word, digit, out)
 }

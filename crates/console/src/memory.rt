@@ -1,16 +1,9 @@
-// The memory that the programs lend. Each promises its length, which is what lending it as a slice asks.
+// The memory that the programs lend.
 ghost use Rattle.std.specs.Prelude.{◌≡◌, length};
 
-// 4,096 zeros.
-pub fn buffer() -> [u8; 4096]
-    ensures { 4096 ≡ length result }
+// This value N times. Of an array that is lent as a slice a caller need only know the length, and written out it would stand in each goal.
+pub fn filled<T: Copy, const N: usize>(v: T) -> [T; N]
+    ensures { N ≡ length result }
 {
-    [0; 4096]
-}
-
-// 65,536 zeros.
-pub fn large_buffer() -> [u8; 65536]
-    ensures { 65536 ≡ length result }
-{
-    [0; 65536]
+    [v; N]
 }

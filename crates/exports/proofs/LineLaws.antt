@@ -2,19 +2,16 @@
 use mathlib.Core.Path.{◌≡◌, refl, sym, ap, ap₂, ◌∙◌, subst}
 use mathlib.Core.List.{List, [], ◌∷◌}
 use mathlib.Core.Bool.{Bool, true, false, cond}
-use mathlib.Core.Option.{Option}
+use Rattle.std.specs.Prelude.{Option, Some, None}
 use Prim.Native.Nat.{ℕ, zero, suc, ◌+◌, ◌-◌, ◌<◌, ◌≤◌}
 use native.Mathlib.Omega.{arith}
 use lib.Dec.{eqb}
 use lib.ListN.{length, take, drop, get_or, length-take, length-drop}
-use lib.Seq.{drop-drop, drop-cons}
 use borrow.Author.Tests.{eq-eqb, ne_eqb}
-use Rattle.console.specs.Input.{up_to, hex_of}
-use Rattle.console.specs.declared.input.Bytes.{Bytes}
-use Rattle.console.specs.declared.input.Bytes.TheVariants.{Count, Other}
+use Rattle.console.specs.Input.{up_to, PieceOf, pairs_of}
 use Rattle.exports.specs.Words.{Decodes, DecodedPost}
 use Rattle.exports.specs.Base64.{base64_of}
-use Rattle.exports.specs.Hexadecimal.{lowered, HexDecodedPost}
+use Rattle.exports.specs.Hexadecimal.{any_digit_of}
 use Rattle.exports.specs.Lines.{on_first, lines_of, trimmed, or_else, state_of}
 
 -- ---- the first line
@@ -40,39 +37,45 @@ first_line b (c ∷ l) =
     (ap (on_first b) (first_line c l)
     ∙ ap₂ (λ (i j : ℕ). take i (b ∷ c ∷ l) ∷ lines_of (drop j (b ∷ c ∷ l))) (let z : suc m ≡ 1 + m = omega arith in z) (let z : suc (m + 1) ≡ 1 + m + 1 = omega arith in z))
 
-pub line_at : (text : List ℕ) (at stop : ℕ) → at < length text → stop ≡ at + up_to 10 (drop at text)
-    → lines_of (drop at text) ≡ take (stop - at) (drop at text) ∷ lines_of (drop (stop + 1) text)
-line_at text at stop h e =
-    let n = up_to 10 (drop at text) in
-    let f : drop at text ≡ get_or text at 0 ∷ drop (suc at) text = drop-cons text at 0 h in
-    let first : lines_of (drop at text) ≡ take n (drop at text) ∷ lines_of (drop (n + 1) (drop at text)) =
-    subst (λ (l : List ℕ). lines_of l ≡ take (up_to 10 l) l ∷ lines_of (drop (up_to 10 l + 1) l)) (sym f) (first_line (get_or text at 0) (drop (suc at) text)) in
-    first
-    ∙ ap₂ (λ (k : ℕ) (l : List ℕ). take k (drop at text) ∷ lines_of l) (let z : n ≡ stop - at = omega arith in z)
-    (drop-drop (n + 1) at text ∙ ap (λ (k : ℕ). drop k text) (let z : at + (n + 1) ≡ stop + 1 = omega arith in z))
+pub line_at : (text piece rest : List ℕ) → PieceOf 10 text piece rest → lines_of text ≡ piece ∷ lines_of rest
+line_at text piece rest p = go text p.more ∙ ap₂ (λ (w r : List ℕ). w ∷ lines_of r) (sym p.first) (sym p.behind)
+  where
+    go : (l : List ℕ) → 0 < length l → lines_of l ≡ take (up_to 10 l) l ∷ lines_of (drop (up_to 10 l + 1) l)
+    go [] h = absurd (let z : ⊥ = omega arith in z)
+    go (b ∷ l) h = first_line b l
+
+-- What is left is shorter by a byte at least.
+pub line_left : (text piece rest : List ℕ) → PieceOf 10 text piece rest → length rest < length text
+line_left text piece rest p = omega (arith, p.more, ap length p.behind, length-drop (up_to 10 text + 1) text)
 
 -- ---- a carriage return
 
-pub trim_none : (line : List ℕ) → length line ≡ 0 → take (length line) line ≡ trimmed line
+trim_last : (line : List ℕ) (last : ℕ) → suc last ≡ length line → get_or line last 0 ≡ 13 → take last line ≡ trimmed line
+unfolding trimmed
+trim_last [] last h e = absurd (let z : ⊥ = omega arith in z)
+trim_last (b ∷ []) zero h e = sym (rw (eq-eqb b 13 e))
+trim_last (b ∷ []) (suc last) h e = absurd (let z : ⊥ = omega arith in z)
+trim_last (b ∷ c ∷ l) zero h e = absurd (let z : ⊥ = omega arith in z)
+trim_last (b ∷ c ∷ l) (suc last) h e = ap (λ (x : List ℕ). b ∷ x) (trim_last (c ∷ l) last (omega arith) e)
+
+trim_whole : (line : List ℕ) (last : ℕ) → suc last ≡ length line → (get_or line last 0 ≡ 13 → ⊥) → line ≡ trimmed line
+unfolding trimmed
+trim_whole [] last h e = absurd (let z : ⊥ = omega arith in z)
+trim_whole (b ∷ []) zero h e = sym (rw (ne_eqb b 13 e))
+trim_whole (b ∷ []) (suc last) h e = absurd (let z : ⊥ = omega arith in z)
+trim_whole (b ∷ c ∷ l) zero h e = absurd (let z : ⊥ = omega arith in z)
+trim_whole (b ∷ c ∷ l) (suc last) h e = ap (λ (x : List ℕ). b ∷ x) (trim_whole (c ∷ l) last (omega arith) e)
+
+pub trim_return : (line : List ℕ) → 1 ≤ length line → get_or line (length line - 1) 0 ≡ 13 → take (length line - 1) line ≡ trimmed line
+trim_return line h e = trim_last line (length line - 1) (omega arith) e
+
+pub trim_other : (line : List ℕ) → 1 ≤ length line → (get_or line (length line - 1) 0 ≡ 13 → ⊥) → line ≡ trimmed line
+trim_other line h n = trim_whole line (length line - 1) (omega arith) n
+
+pub trim_none : (line : List ℕ) → length line < 1 → line ≡ trimmed line
 unfolding trimmed
 trim_none [] h = refl
 trim_none (b ∷ line) h = absurd (let z : ⊥ = omega arith in z)
-
-pub trim_return : (line : List ℕ) (last : ℕ) → suc last ≡ length line → get_or line last 0 ≡ 13 → take last line ≡ trimmed line
-unfolding trimmed
-trim_return [] last h e = absurd (let z : ⊥ = omega arith in z)
-trim_return (b ∷ []) zero h e = sym (rw (eq-eqb b 13 e))
-trim_return (b ∷ []) (suc last) h e = absurd (let z : ⊥ = omega arith in z)
-trim_return (b ∷ c ∷ l) zero h e = absurd (let z : ⊥ = omega arith in z)
-trim_return (b ∷ c ∷ l) (suc last) h e = ap (λ (x : List ℕ). b ∷ x) (trim_return (c ∷ l) last (omega arith) e)
-
-pub trim_other : (line : List ℕ) (last : ℕ) → suc last ≡ length line → (get_or line last 0 ≡ 13 → ⊥) → line ≡ trimmed line
-unfolding trimmed
-trim_other [] last h e = absurd (let z : ⊥ = omega arith in z)
-trim_other (b ∷ []) zero h e = sym (rw (ne_eqb b 13 e))
-trim_other (b ∷ []) (suc last) h e = absurd (let z : ⊥ = omega arith in z)
-trim_other (b ∷ c ∷ l) zero h e = absurd (let z : ⊥ = omega arith in z)
-trim_other (b ∷ c ∷ l) (suc last) h e = ap (λ (x : List ℕ). b ∷ x) (trim_other (c ∷ l) last (omega arith) e)
 
 pub trimmed_short : (line : List ℕ) → length (trimmed line) ≤ length line
 unfolding trimmed
@@ -84,23 +87,23 @@ trimmed_short (b ∷ []) = go (eqb b 13)
     go false = omega arith
 trimmed_short (b ∷ c ∷ l) = omega (arith, trimmed_short (c ∷ l))
 
-pub word_short : (text word : List ℕ) (at n : ℕ) → word ≡ trimmed (take n (drop at text)) → length word ≤ length text
-word_short text word at n e =
-    omega (arith, ap (λ (l : List ℕ). length l) e, trimmed_short (take n (drop at text)), length-take n (drop at text), length-drop at text)
+pub word_short : (text piece rest word : List ℕ) → PieceOf 10 text piece rest → word ≡ trimmed piece → length word ≤ length text
+word_short text piece rest word p e =
+    omega (arith, ap length e, trimmed_short piece, ap length p.first, length-take (up_to 10 text) text)
 
 -- ---- a word
 
-pub spelled_hex : (word old after : List ℕ) (n : ℕ) (r : Bytes) → r ≡ Count n → HexDecodedPost word old r after → DecodedPost (state_of word) old (Count n) after
-unfolding state_of
-spelled_hex word old after n r e p =
-    let w = subst (λ (x : Bytes). Decodes (hex_of (lowered word)) x after) e p.decoded.answer in
-    record { answer = (ap (λ (d : Option (List ℕ)). or_else d (base64_of word)) w.0, w.1); free = p.decoded.free }
-
 -- Base64 was read over what hexadecimal had left.
-pub not_hex : (word old between after : List ℕ) (r b : Bytes) → r ≡ Other → HexDecodedPost word old r between → DecodedPost (base64_of word) between b after
+pub not_hex : (word old between after : List ℕ) (r b : Option ℕ) → r ≡ None → DecodedPost (pairs_of any_digit_of word) old r between → DecodedPost (base64_of word) between b after
     → DecodedPost (state_of word) old b after
 unfolding state_of
 not_hex word old between after r b e p q =
-    let none-hex = subst (λ (x : Bytes). Decodes (hex_of (lowered word)) x between) e p.decoded.answer in
-    let same : base64_of word ≡ or_else (hex_of (lowered word)) (base64_of word) = sym (ap (λ (d : Option (List ℕ)). or_else d (base64_of word)) none-hex) in
-    record { answer = subst (λ (d : Option (List ℕ)). Decodes d b after) same q.answer; free = q.free ∙ p.decoded.free }
+    let none-hex = subst (λ (x : Option ℕ). Decodes (pairs_of any_digit_of word) x between) e p.answer in
+    let same : base64_of word ≡ or_else (pairs_of any_digit_of word) (base64_of word) = sym (ap (λ (d : Option (List ℕ)). or_else d (base64_of word)) none-hex) in
+    record { answer = subst (λ (d : Option (List ℕ)). Decodes d b after) same q.answer; free = q.free ∙ p.free }
+
+pub spelled_hex : (word old after : List ℕ) (n : ℕ) (r : Option ℕ) → r ≡ Some n → DecodedPost (pairs_of any_digit_of word) old r after → DecodedPost (state_of word) old (Some n) after
+unfolding state_of
+spelled_hex word old after n r e p =
+    let w = subst (λ (x : Option ℕ). Decodes (pairs_of any_digit_of word) x after) e p.answer in
+    record { answer = (ap (λ (d : Option (List ℕ)). or_else d (base64_of word)) w.0, w.1); free = p.free }

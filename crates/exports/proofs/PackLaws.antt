@@ -2,11 +2,12 @@
 use mathlib.Core.Path.{◌≡◌, refl, sym, ap, ap₂, ◌∙◌, subst}
 use mathlib.Core.List.{List, [], ◌∷◌, ◌++◌, append_assoc, append-nil}
 use mathlib.Core.Bool.{Bool, true, false, cond}
-use mathlib.Core.Option.{none, some}
-use Prim.Native.Nat.{ℕ, suc, ◌+◌, ◌-◌, ◌<◌, ◌≤◌}
+use mathlib.Core.Logic.{◌≢◌}
+use Rattle.std.specs.Prelude.{Some, None, Result, Ok, Err}
+use Prim.Native.Nat.{ℕ, suc, ◌+◌, ◌<◌, ◌≤◌}
 use native.Mathlib.Omega.{arith}
 use lib.Dec.{leb}
-use lib.ListN.{length, take, drop, set, drop_of_length-le, take-append-drop}
+use lib.ListN.{length, take, drop, set, take-append-drop}
 use lib.Seq.{sets, sets-eq, length-sets, take_at, drop-drop, drop-set-lt, length-take-le}
 use borrow.Author.Tests.{le-leb, lt-leb, leb-true}
 use Rattle.wire.specs.Varints.{PutPost}
@@ -14,15 +15,13 @@ use Rattle.batch.specs.Chain.{chain_of}
 use Rattle.batch.specs.Packing.{word_bytes, record_bytes, packed, RecordPost}
 use Rattle.batch.proofs.PackingLaws.{Open, open_start, open_packed, open_behind, open_next, word_length, record_length, Finds, packed_chain}
 use Rattle.std.specs.Counts.{IsPrefixLen}
-use Rattle.console.specs.Input.{up_to}
+use Rattle.console.specs.Input.{PieceOf}
 use Rattle.exports.specs.declared.packing.Place.{Place}
-use Rattle.exports.specs.declared.packing.Turn.{Turn}
-use Rattle.exports.specs.declared.packing.Turn.TheVariants.{Next, Other, Long}
-use Rattle.exports.specs.declared.packing.Packed.{Packed}
-use Rattle.exports.specs.declared.packing.Packed.TheVariants.{Batch}
+use Rattle.exports.specs.declared.packing.PackError.{PackError}
+use Rattle.exports.specs.declared.packing.PackError.TheVariants.{BadLine, TooLong}
 use Rattle.exports.specs.Lines.{lines_of, trimmed, state_of, Held, nothing, state, other, held_by, held}
-use Rattle.exports.specs.Packing.{Stop, finished, bad, long, Packing, stops, after, line_then, packing, packing_of, FitPost, TurnPost, refusal, packed_by, PackedPost}
-use Rattle.exports.proofs.LineLaws.{line_at}
+use Rattle.exports.specs.Packing.{Stop, finished, bad, long, Packing, stops, after, line_then, packing, packing_of, FitPost, LinePost, packed_by, PackedPost}
+use Rattle.exports.proofs.LineLaws.{line_at, line_left}
 
 -- ---- one line
 
@@ -30,31 +29,31 @@ held_none : (word : List ℕ) → length word ≡ 0 → held word ≡ nothing
 held_none [] h = refl
 held_none (b ∷ word) h = absurd (let z : ⊥ = omega arith in z)
 
-held_by_lem : (word : List ℕ) → (length word ≡ 0 → ⊥) → held word ≡ held_by (state_of word)
+held_by_lem : (word : List ℕ) → length word ≢ 0 → held word ≡ held_by (state_of word)
 held_by_lem [] n = absurd (n refl)
 held_by_lem (b ∷ word) n = refl
 
-pub turn_empty : (word out : List ℕ) (p : Place) → length word ≡ 0 → TurnPost (held word) out p (Next p) out
-turn_empty word out p h = subst (λ (x : Held). TurnPost x out p (Next p) out) (sym (held_none word h)) (refl, refl)
+pub turn_empty : (word out : List ℕ) (n : ℕ) (p : Place) → length word ≡ 0 → LinePost (held word) n out p (Ok p) out
+turn_empty word out n p h = subst (λ (x : Held). LinePost x n out p (Ok p) out) (sym (held_none word h)) (refl, refl)
 
-module _ (word out : List ℕ) (p : Place) (n : length word ≡ 0 → ⊥) where
-  pub turn_other : state_of word ≡ none → TurnPost (held word) out p Other out
-  turn_other e = subst (λ (x : Held). TurnPost x out p Other out) (sym (held_by_lem word n ∙ ap held_by e)) (refl, refl)
+module _ (word out : List ℕ) (n : ℕ) (p : Place) (some : length word ≢ 0) where
+  pub turn_other : state_of word ≡ None → LinePost (held word) n out p (Err (BadLine n)) out
+  turn_other e = subst (λ (x : Held). LinePost x n out p (Err (BadLine n)) out) (sym (held_by_lem word some ∙ ap held_by e)) (refl, refl)
 
-  module _ (s : List ℕ) (e : state_of word ≡ some s) where
-    turn_state : (r : Turn) (now : List ℕ) (t : Bool) → leb (p.end + 8 + length s) (length out) ≡ t → FitPost t out p s r now → TurnPost (held word) out p r now
+  module _ (s : List ℕ) (e : state_of word ≡ Some s) where
+    turn_state : (r : Result Place PackError) (now : List ℕ) (t : Bool) → leb (p.end + 8 + length s) (length out) ≡ t → FitPost t n out p s r now → LinePost (held word) n out p r now
     turn_state r now t f post =
-        subst (λ (x : Held). TurnPost x out p r now) (sym (held_by_lem word n ∙ ap held_by e)) (subst (λ (b : Bool). FitPost b out p s r now) (sym f) post)
+        subst (λ (x : Held). LinePost x n out p r now) (sym (held_by_lem word some ∙ ap held_by e)) (subst (λ (b : Bool). FitPost b n out p s r now) (sym f) post)
 
-    pub turn_long : length out < p.end + 8 + length s → TurnPost (held word) out p Long out
-    turn_long h = turn_state Long out false (lt-leb (p.end + 8 + length s) (length out) h) (refl, refl)
+    pub turn_long : length out < p.end + 8 + length s → LinePost (held word) n out p (Err (TooLong n)) out
+    turn_long h = turn_state (Err (TooLong n)) out false (lt-leb (p.end + 8 + length s) (length out) h) (refl, refl)
 
     pub turn_next : (now : List ℕ) (r : ℕ) → p.end + 8 + length s ≤ length out → RecordPost out p.last p.end s r now
-        → TurnPost (held word) out p (Next (record { last = p.end; end = r })) now
+        → LinePost (held word) n out p (Ok (record { last = p.end; end = r })) now
     turn_next now r h post =
         let f : r ≡ p.end + 8 + length s = omega (arith, post.put.next, record_length 0 s) in
-        turn_state (Next (record { last = p.end; end = r })) now true (le-leb (p.end + 8 + length s) (length out) h)
-        (ap (λ (k : ℕ). Next (record { last = p.end; end = k })) f, subst (λ (k : ℕ). RecordPost out p.last p.end s k now) f post)
+        turn_state (Ok (record { last = p.end; end = r })) now true (le-leb (p.end + 8 + length s) (length out) h)
+        (ap (λ (k : ℕ). Ok (record { last = p.end; end = k })) f, subst (λ (k : ℕ). RecordPost out p.last p.end s k now) f post)
 
 -- ---- all lines
 
@@ -91,18 +90,18 @@ front_put out bytes now n e room front rest =
     ∙ sym (sets-eq bytes out 0 (omega arith) ∙ ap (λ (k : ℕ). bytes ++ drop k out) (let z : 0 + length bytes ≡ n = omega arith in z))
 
 -- The batch of the states so far, and what the lines that are left make of it. `old` is what `out` was with the batch of no states.
-pub record Packs (text old out : List ℕ) (p : Place) (at line : ℕ) : Type 0 where
+pub record Packs (text old out : List ℕ) (p : Place) (rest : List ℕ) (line : ℕ) : Type 0 where
   pub done : List (List ℕ)
   pub opened : Open done p.last p.end (take p.end out)
   pub inside : p.end ≤ length out
   pub size : length out ≡ length old
   pub untouched : drop p.end out ≡ drop p.end old
-  pub counted : line ≤ at
-  pub whole : packing_of (length old) text ≡ after done (packing (length old) line p.end (lines_of (drop at text)))
+  pub counted : line + length rest ≤ length text
+  pub whole : packing_of (length old) text ≡ after done (packing (length old) line p.end (lines_of rest))
 
-pub packs_start : (text out now : List ℕ) (r : ℕ) → 4 ≤ length out → PutPost out 0 (word_bytes 0) r now
-    → Packs text now now (record { last = 0; end = r }) 0 0
-packs_start text out now r room post =
+pub packs_start : (text rest out now : List ℕ) (r : ℕ) → rest ≡ text → 4 ≤ length out → PutPost out 0 (word_bytes 0) r now
+    → Packs text now now (record { last = 0; end = r }) rest 0
+packs_start text rest out now r all room post =
     let e : r ≡ 4 = omega (arith, post.next, word_length 0) in
     let same : length now ≡ length out = ap (λ (l : List ℕ). length l) post.output ∙ length-sets out 0 (word_bytes 0) in
     let fits : 0 + length (word_bytes 0) ≤ length out = omega (arith, word_length 0) in
@@ -116,13 +115,13 @@ packs_start text out now r room post =
       inside = omega arith;
       size = refl;
       untouched = refl;
-      counted = omega arith;
-      whole = ap (λ (k : ℕ). packing (length now) 0 k (lines_of text)) (sym e);
+      counted = omega (arith, ap length all);
+      whole = ap₂ (λ (k : ℕ) (l : List ℕ). packing (length now) 0 k (lines_of l)) (sym e) (sym all);
     }
 
 -- Packing stops here: the batch of the lines so far stands there, and nothing past it was touched.
 module _ (text entry spare left old : List ℕ) (first : ℕ) (began : PutPost entry 0 (word_bytes 0) first old) (free : length left ≡ length spare)
-    (out : List ℕ) (p : Place) (at line : ℕ) (g : Packs text old out p at line) where
+    (out : List ℕ) (p : Place) (rest : List ℕ) (line : ℕ) (g : Packs text old out p rest line) where
   stands : (stop : Stop) → packing_of (length old) text ≡ after g.done (stops stop)
       → PackedPost (packing_of (length entry) text) spare entry (packed_by stop p.end) left out
   stands stop whole =
@@ -143,63 +142,58 @@ module _ (text entry spare left old : List ℕ) (first : ℕ) (began : PutPost e
       })
 
   -- No line is left.
-  pub packs_end : length text ≤ at → PackedPost (packing_of (length entry) text) spare entry (Batch p.end) left out
+  pub packs_end : length rest ≡ 0 → PackedPost (packing_of (length entry) text) spare entry (Ok p.end) left out
   unfolding packing lines_of
-  packs_end h =
-      stands finished
-      (g.whole ∙ ap (λ (l : List ℕ). after g.done (packing (length old) line p.end (lines_of l))) (drop_of_length-le text h))
+  packs_end h = stands finished (g.whole ∙ ap (after g.done) (go rest h))
+    where
+      go : (l : List ℕ) → length l ≡ 0 → packing (length old) line p.end (lines_of l) ≡ stops finished
+      go [] h = refl
+      go (b ∷ l) h = absurd (let z : ⊥ = omega arith in z)
 
-abbrev pub NoNext : Turn → Type 0
-NoNext r = (q : Place) → r ≡ Next q → ⊥
+module _ (text old out : List ℕ) (p : Place) (rest : List ℕ) (line : ℕ) (g : Packs text old out p rest line) (piece next word : List ℕ)
+    (first : PieceOf 10 rest piece next) (is : word ≡ trimmed piece) where
+  more : ℕ → Packing
+  more e = packing (length old) (line + 1) e (lines_of next)
 
-no_next : (r : Turn) (q : Place) → NoNext r → r ≡ Next q → ⊥
-no_next r q k e = k q e
-
-module _ (text old out : List ℕ) (p : Place) (at line : ℕ) (g : Packs text old out p at line) (stop : ℕ) (word : List ℕ)
-    (more : at < length text) (place : stop ≡ at + up_to 10 (drop at text)) (is : word ≡ trimmed (take (stop - at) (drop at text))) where
-  rest : ℕ → Packing
-  rest e = packing (length old) (line + 1) e (lines_of (drop (stop + 1) text))
-
-  opened_line : packing_of (length old) text ≡ after g.done (line_then (length old) (line + 1) p.end (held word) rest)
-  unfolding packing rest
+  opened_line : packing_of (length old) text ≡ after g.done (line_then (length old) (line + 1) p.end (held word) more)
+  unfolding packing more
   opened_line =
       g.whole
-      ∙ ap (λ (l : List (List ℕ)). after g.done (packing (length old) line p.end l)) (line_at text at stop more place)
-      ∙ ap (λ (w : List ℕ). after g.done (line_then (length old) (line + 1) p.end (held w) rest)) (sym is)
+      ∙ ap (λ (l : List (List ℕ)). after g.done (packing (length old) line p.end l)) (line_at rest piece next first)
+      ∙ ap (λ (w : List ℕ). after g.done (line_then (length old) (line + 1) p.end (held w) more)) (sym is)
 
   -- Whether the record of s fits.
   fitted : (s : List ℕ) (t : Bool) → leb (p.end + 8 + length s) (length out) ≡ t
-      → packing_of (length old) text ≡ after g.done (line_then (length old) (line + 1) p.end (state s) rest)
-      → packing_of (length old) text ≡ after g.done (cond t (after (s ∷ []) (rest (p.end + 8 + length s))) (stops (long (line + 1))))
+      → packing_of (length old) text ≡ after g.done (line_then (length old) (line + 1) p.end (state s) more)
+      → packing_of (length old) text ≡ after g.done (cond t (after (s ∷ []) (more (p.end + 8 + length s))) (stops (long (line + 1))))
   fitted s t f whole =
       whole
-      ∙ ap (λ (b : Bool). after g.done (cond b (after (s ∷ []) (rest (p.end + 8 + length s))) (stops (long (line + 1)))))
+      ∙ ap (λ (b : Bool). after g.done (cond b (after (s ∷ []) (more (p.end + 8 + length s))) (stops (long (line + 1)))))
       (ap (leb (p.end + 8 + length s)) (sym g.size) ∙ f)
 
-  turned : (r : Turn) (now : List ℕ) (q : Place) → length now ≡ length out → r ≡ Next q → (h : Held)
-      → packing_of (length old) text ≡ after g.done (line_then (length old) (line + 1) p.end h rest) → TurnPost h out p r now
-      → Packs text old now q (stop + 1) (line + 1)
-  unfolding rest
-  turned r now q same e nothing whole post =
+  turned : (q : Place) (now : List ℕ) → length now ≡ length out → (h : Held)
+      → packing_of (length old) text ≡ after g.done (line_then (length old) (line + 1) p.end h more) → LinePost h (line + 1) out p (Ok q) now
+      → Packs text old now q next (line + 1)
+  unfolding more
+  turned q now same nothing whole post =
       let f : p ≡ q = cc post.0 in
-      let start : line + 1 ≤ stop + 1 = omega (arith, g.counted) in
-      subst (λ (x : Place). Packs text old now x (stop + 1) (line + 1)) f
+      subst (λ (x : Place). Packs text old now x next (line + 1)) f
       (record {
         done = g.done;
         opened = subst (λ (l : List ℕ). Open g.done p.last p.end (take p.end l)) (sym post.1) g.opened;
         inside = omega (arith, g.inside);
         size = same ∙ g.size;
         untouched = ap (drop p.end) post.1 ∙ g.untouched;
-        counted = start;
+        counted = omega (arith, g.counted, line_left rest piece next first);
         whole = whole;
       })
-  turned r now q same e (state s) whole post = fit (leb (p.end + 8 + length s) (length out)) refl post
+  turned q now same (state s) whole post = fit (leb (p.end + 8 + length s) (length out)) refl post
     where
-      fit : (t : Bool) → leb (p.end + 8 + length s) (length out) ≡ t → FitPost t out p s r now → Packs text old now q (stop + 1) (line + 1)
+      fit : (t : Bool) → leb (p.end + 8 + length s) (length out) ≡ t → FitPost t (line + 1) out p s (Ok q) now → Packs text old now q next (line + 1)
       fit true f post =
           let room_for : p.end + 8 + length s ≤ length out = leb-true (p.end + 8 + length s) (length out) f in
           let k : record { last = p.end; end = p.end + 8 + length s } ≡ q = cc post.0 in
-          subst (λ (x : Place). Packs text old now x (stop + 1) (line + 1)) k
+          subst (λ (x : Place). Packs text old now x next (line + 1)) k
           (record {
             done = g.done ++ s ∷ [];
             opened = open_next out s now (p.end + 8 + length s) room_for g.opened post.1;
@@ -208,42 +202,43 @@ module _ (text old out : List ℕ) (p : Place) (at line : ℕ) (g : Packs text o
             untouched =
                 record_past out s now p.last p.end (p.end + 8 + length s) (open_behind g.opened) post.1
                 ∙ further out old p.end (8 + length s) (p.end + 8 + length s) (omega arith) g.untouched;
-            counted = omega (arith, g.counted);
-            whole = fitted s true f whole ∙ after_twice g.done (s ∷ []) (rest (p.end + 8 + length s));
+            counted = omega (arith, g.counted, line_left rest piece next first);
+            whole = fitted s true f whole ∙ after_twice g.done (s ∷ []) (more (p.end + 8 + length s));
           })
       fit false f post = let m = post.0 in absurd (let z : ◌≡◌ {A = ℕ} 0 1 = cc in omega arith)
-  turned r now q same e other whole post = let m = post.0 in absurd (let z : ◌≡◌ {A = ℕ} 0 1 = cc in omega arith)
+  turned q now same other whole post = let m = post.0 in absurd (let z : ◌≡◌ {A = ℕ} 0 1 = cc in omega arith)
 
-  pub packs_turn : (r : Turn) (now : List ℕ) (q : Place) → length now ≡ length out → r ≡ Next q → TurnPost (held word) out p r now
-      → Packs text old now q (stop + 1) (line + 1)
-  packs_turn r now q same e post = turned r now q same e (held word) opened_line post
+  pub packs_turn : (q : Place) (now : List ℕ) → length now ≡ length out → LinePost (held word) (line + 1) out p (Ok q) now → Packs text old now q next (line + 1)
+  packs_turn q now same post = turned q now same (held word) opened_line post
 
   -- A line is refused, which leaves everything as it was.
-  module _ (entry spare left : List ℕ) (first : ℕ) (began : PutPost entry 0 (word_bytes 0) first old) (free : length left ≡ length spare)
-      (r : Turn) (x : Packed) (now : List ℕ) (k : NoNext r) (e : x ≡ refusal r (line + 1)) where
-    refuses : (end : Stop) (t : Turn) → packing_of (length old) text ≡ after g.done (stops end) → r ≡ t → refusal t (line + 1) ≡ packed_by end p.end → now ≡ out
-        → PackedPost (packing_of (length entry) text) spare entry x left now
-    refuses end t whole f answer same =
-        subst (λ (y : Packed). PackedPost (packing_of (length entry) text) spare entry y left now) (sym (e ∙ ap (λ (u : Turn). refusal u (line + 1)) f ∙ answer))
-        (subst (λ (o : List ℕ). PackedPost (packing_of (length entry) text) spare entry (packed_by end p.end) left o) (sym same)
-        (stands text entry spare left old first began free out p at line g end whole))
+  module _ (entry spare left : List ℕ) (begins : ℕ) (began : PutPost entry 0 (word_bytes 0) begins old) (free : length left ≡ length spare) (e : PackError) (now : List ℕ) where
+    refuses : (stop : Stop) → packing_of (length old) text ≡ after g.done (stops stop) → Err e ≡ packed_by stop p.end → now ≡ out
+        → PackedPost (packing_of (length entry) text) spare entry (Err e) left now
+    refuses stop whole answer same =
+        subst (λ (y : Result ℕ PackError). PackedPost (packing_of (length entry) text) spare entry y left now) (sym answer)
+        (subst (λ (o : List ℕ). PackedPost (packing_of (length entry) text) spare entry (packed_by stop p.end) left o) (sym same)
+        (stands text entry spare left old begins began free out p rest line g stop whole))
 
-    stopped : (h : Held) → packing_of (length old) text ≡ after g.done (line_then (length old) (line + 1) p.end h rest) → TurnPost h out p r now
-        → PackedPost (packing_of (length entry) text) spare entry x left now
-    stopped nothing whole post = absurd (no_next r p k post.0)
+    same_error : (f : PackError) → ◌≡◌ {A = Result Place PackError} (Err e) (Err f) → ◌≡◌ {A = Result ℕ PackError} (Err e) (Err f)
+    same_error f h = cc
+
+    stopped : (h : Held) → packing_of (length old) text ≡ after g.done (line_then (length old) (line + 1) p.end h more) → LinePost h (line + 1) out p (Err e) now
+        → PackedPost (packing_of (length entry) text) spare entry (Err e) left now
+    stopped nothing whole post = let m = post.0 in absurd (let z : ◌≡◌ {A = ℕ} 0 1 = cc in omega arith)
     stopped (state s) whole post = fit (leb (p.end + 8 + length s) (length out)) refl post
       where
-        fit : (t : Bool) → leb (p.end + 8 + length s) (length out) ≡ t → FitPost t out p s r now → PackedPost (packing_of (length entry) text) spare entry x left now
-        fit true f post = absurd (no_next r (record { last = p.end; end = p.end + 8 + length s }) k post.0)
-        fit false f post = refuses (long (line + 1)) Long (fitted s false f whole) post.0 refl post.1
-    stopped other whole post = refuses (bad (line + 1)) Other whole post.0 refl post.1
+        fit : (t : Bool) → leb (p.end + 8 + length s) (length out) ≡ t → FitPost t (line + 1) out p s (Err e) now → PackedPost (packing_of (length entry) text) spare entry (Err e) left now
+        fit true f post = let m = post.0 in absurd (let z : ◌≡◌ {A = ℕ} 0 1 = cc in omega arith)
+        fit false f post = refuses (long (line + 1)) (fitted s false f whole) (same_error (TooLong (line + 1)) post.0) post.1
+    stopped other whole post = refuses (bad (line + 1)) whole (same_error (BadLine (line + 1)) post.0) post.1
 
-    pub packs_refused : TurnPost (held word) out p r now → PackedPost (packing_of (length entry) text) spare entry x left now
+    pub packs_refused : LinePost (held word) (line + 1) out p (Err e) now → PackedPost (packing_of (length entry) text) spare entry (Err e) left now
     packs_refused post = stopped (held word) opened_line post
 
 -- ---- for callers: the batch lies inside, and walking it finds the states of the lines
 
-module _ {x : Packing} {spare out : List ℕ} {r : Packed} {left now : List ℕ} {n : ℕ} (e : r ≡ Batch n) (post : PackedPost x spare out r left now) where
+module _ {x : Packing} {spare out : List ℕ} {r : Result ℕ PackError} {left now : List ℕ} {n : ℕ} (e : r ≡ Ok n) (post : PackedPost x spare out r left now) where
   -- Only packing that ends with the last line makes a batch.
   made_is : (stop : Stop) → r ≡ packed_by stop (length (packed x.states)) → n ≡ length (packed x.states)
   made_is finished f = cc

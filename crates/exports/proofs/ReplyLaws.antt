@@ -2,28 +2,28 @@
 use mathlib.Core.Path.{◌≡◌, refl, sym, ap, ◌∙◌, subst}
 use mathlib.Core.List.{List, [], ◌++◌}
 use mathlib.Core.Bool.{Bool, true, false, cond, ◌&&◌}
-use Prim.Native.Nat.{ℕ, ◌+◌, ◌-◌, ◌≤◌}
+use Prim.Native.Nat.{ℕ, ◌+◌, ◌-◌, ◌^◌, ◌≤◌, ◌<◌}
 use native.Mathlib.Omega.{arith}
 use lib.Dec.{leb, eqb}
 use lib.ListN.{length, length-append}
 use lib.Seq.{sets, length-sets}
-use borrow.Author.Tests.{eq-eqb, ne_eqb, le-leb, lt-leb, leb-true}
+use borrow.Author.Tests.{le-leb, lt-leb, leb-true}
 use Rattle.wire.specs.Varints.{PutPost}
 use Rattle.batch.specs.Chain.{is_batch, Chain, chain_of}
 use Rattle.batch.specs.Packing.{packed}
 use Rattle.batch.proofs.ChainLaws.{chain_is, chain_short}
-use Rattle.console.specs.declared.input.Stream.{Stream}
-use Rattle.console.specs.declared.input.Stream.TheVariants.{Full}
+use Rattle.std.specs.Prelude.{Result, Ok, Err, decimal}
+use Rattle.std.specs.Fmt.{digits}
+use Rattle.std.proofs.lemmas.Fmt.{length-decimal-le}
+use Rattle.console.specs.Input.{Stream}
+use Rattle.console.specs.declared.input.StreamError.TheVariants.{Full}
 use Rattle.console.specs.declared.output.Said.{Said}
-use Rattle.console.specs.declared.output.Said.TheVariants.{Out, Err}
+use Rattle.console.specs.declared.output.Said.TheVariants.{Out, Err as ErrSaid}
 use Rattle.console.specs.Output.{ascii, Saying, out, err, SaidPost}
-use Rattle.console.specs.Numbers.{figures, decimal_text}
-use Rattle.console.proofs.NumberLaws.{decimal_short}
 use Rattle.console.proofs.OutputLaws.{said_out, said_err}
-use Rattle.exports.specs.declared.packing.Packed.{Packed}
-use Rattle.exports.specs.declared.packing.Packed.TheVariants.{Batch}
-use Rattle.exports.specs.declared.unpacking.Unpacked.{Unpacked}
-use Rattle.exports.specs.declared.unpacking.Unpacked.TheVariants.{Text, Broken, Long}
+use Rattle.exports.specs.declared.packing.PackError.{PackError}
+use Rattle.exports.specs.declared.unpacking.UnpackError.{UnpackError}
+use Rattle.exports.specs.declared.unpacking.UnpackError.TheVariants.{Broken, TooLong}
 use Rattle.exports.specs.Packing.{packing_of, packed_of, PackedPost}
 use Rattle.exports.specs.Unpacking.{batch_text, unpacked_of, put_of, UnpackedPost}
 use Rattle.exports.specs.Replies.{line_message, packed_says, lines_say, thousands, pack_says, PackReply, broken_at, chain_message, unpacked_says, batch_says, unpack_says, UnpackReply}
@@ -32,49 +32,47 @@ use Rattle.exports.proofs.PackLaws.{made_bytes, made_counts}
 -- ---- messages
 
 -- A message that was put at the front is said.
-pub put_said : {before message after : List ℕ} {r : ℕ} → length message ≤ length before → PutPost before 0 message r after → SaidPost (err message) before (Err r) after
+pub put_said : {before message after : List ℕ} {r : ℕ} → length message ≤ length before → PutPost before 0 message r after → SaidPost (err message) before (ErrSaid r) after
 put_said {before} {message} room p = said_err before message room (omega (arith, p.next)) p.output
 
-pub line_message_short : (line : ℕ) (what : List ℕ) → length (line_message line what) ≤ 31 + length what
-line_message_short line what = omega (arith, length-append (ascii "pack: line " ++ decimal_text line) what, decimal_short line)
+-- A number of 64 bits has at most 20 digits.
+pub decimal_short : (n : ℕ) → n < 2 ^ 64 → length (decimal n) ≤ 20
+decimal_short n h = length-decimal-le 20 n (omega arith) (omega arith) h
 
-pub chain_message_short : (records ending : ℕ) → length (chain_message records ending) ≤ 128
-chain_message_short records ending =
+pub line_message_short : (line : ℕ) (what : List ℕ) → line < 2 ^ 64 → length (line_message line what) ≤ 31 + length what
+line_message_short line what h = omega (arith, length-append (ascii "pack: line " ++ decimal line) what, length-append (ascii "pack: line ") (decimal line), decimal_short line h)
+
+pub chain_message_short : (records ending : ℕ) → broken_at records ending < 2 ^ 64 → ending < 2 ^ 64 → length (chain_message records ending) ≤ 128
+chain_message_short records ending h k =
     omega (
       arith,
-      length-append (ascii "unpack: the chain breaks at record " ++ decimal_text (broken_at records ending)) ((ascii " with " ++ decimal_text ending) ++ ascii "\n"),
-      length-append (ascii " with " ++ decimal_text ending) (ascii "\n"),
-      decimal_short (broken_at records ending),
-      decimal_short ending,
+      length-append (ascii "unpack: the chain breaks at record " ++ decimal (broken_at records ending)) ((ascii " with " ++ decimal ending) ++ ascii "\n"),
+      length-append (ascii " with " ++ decimal ending) (ascii "\n"),
+      decimal_short (broken_at records ending) h,
+      decimal_short ending k,
     )
-
-pub broken_none : (records ending : ℕ) → ending ≡ 24 → 0 ≡ broken_at records ending
-broken_none records ending e = sym (ap (λ (t : Bool). cond t 0 (records + 1)) (eq-eqb ending 24 e))
-
-pub broken_next : (records ending : ℕ) → (ending ≡ 24 → ⊥) → records + 1 ≡ broken_at records ending
-broken_next records ending n = sym (ap (λ (t : Bool). cond t 0 (records + 1)) (ne_eqb ending 24 n))
 
 -- ---- pack
 
-module _ (lines : List ℕ) {spare before : List ℕ} {r : Packed} {left now : List ℕ} (size : length before ≡ 65536)
+module _ (lines : List ℕ) {spare before : List ℕ} {r : Result ℕ PackError} {left now : List ℕ} (size : length before ≡ 65536)
     (post : PackedPost (packing_of (length before) lines) spare before r left now) where
   abbrev batch : List ℕ
   batch = packed (packing_of (length before) lines).states
 
-  lines_say_lem : {known : Packed} → r ≡ known → lines_say lines ≡ packed_says known batch
+  lines_say_lem : {known : Result ℕ PackError} → r ≡ known → lines_say lines ≡ packed_says known batch
   unfolding lines_say
   lines_say_lem e =
       ap (λ (k : ℕ). packed_says (packed_of (packing_of k lines)) (packed (packing_of k lines).states)) (sym size)
-      ∙ ap (λ (x : Packed). packed_says x (packed (packing_of (length before) lines).states)) (sym post.answer ∙ e)
+      ∙ ap (λ (x : Result ℕ PackError). packed_says x (packed (packing_of (length before) lines).states)) (sym post.answer ∙ e)
 
   same_size : length now ≡ length before
   same_size = ap (λ (l : List ℕ). length l) post.output ∙ length-sets before 0 (packed (packing_of (length before) lines).states)
 
-  pub batch_said : (n : ℕ) → r ≡ Batch n → PackReply (lines_say lines) spare before (Out n) left now
+  pub batch_said : (n : ℕ) → r ≡ Ok n → PackReply (lines_say lines) spare before (Out n) left now
   batch_said n e = record { said = (ap out (made_bytes e post) ∙ sym (lines_say_lem e), made_counts e post); free = (post.free, same_size) }
 
   -- A message, over the batch of the lines before.
-  pub line_said : {known : Packed} {w : Saying} {said : Said} {after : List ℕ} → r ≡ known → packed_says known batch ≡ w → length after ≡ length now
+  pub line_said : {known : Result ℕ PackError} {w : Saying} {said : Said} {after : List ℕ} → r ≡ known → packed_says known batch ≡ w → length after ≡ length now
       → SaidPost w now said after → PackReply (lines_say lines) spare before said left after
   line_said e f kept s = record { said = (s.says ∙ sym (lines_say_lem e ∙ f), s.counts); free = (post.free, kept ∙ same_size) }
 
@@ -89,55 +87,55 @@ pack_complained e s = record { said = (s.says, s.counts); free = (refl, e) }
 
 -- A buffer of 262,145 bytes that is full.
 pub too_long_said : (buf : List ℕ) {spare before left after : List ℕ} {r : Said} → length buf ≡ 262145
-    → PackReply (err (ascii "pack: standard input is longer than 262,144 bytes\n")) spare before r left after → PackReply (pack_says Full buf) spare before r left after
-unfolding figures
+    → PackReply (err (ascii "pack: standard input is longer than 262,144 bytes\n")) spare before r left after → PackReply (pack_says (Err Full) buf) spare before r left after
+unfolding digits
 too_long_said buf {spare} {before} {left} {after} {r} e p =
     subst
     (λ (k : ℕ). PackReply (err (ascii "pack: standard input is longer than " ++ (thousands (k - 1) ++ ascii " bytes\n"))) spare before r left after) (sym e) p
 
 -- ---- unpack
 
-module _ {batch cells before : List ℕ} {r : Unpacked} {indices now : List ℕ} (size : length before ≡ 1048576) (post : UnpackedPost batch cells before r indices now) where
+module _ {batch cells before : List ℕ} {r : Result ℕ UnpackError} {indices now : List ℕ} (size : length before ≡ 1048576) (post : UnpackedPost batch cells before r indices now) where
   says_so : batch_says batch ≡ unpacked_says r (batch_text batch)
   unfolding batch_says
-  says_so = ap (λ (k : ℕ). unpacked_says (unpacked_of k batch) (batch_text batch)) (sym size) ∙ ap (λ (x : Unpacked). unpacked_says x (batch_text batch)) (sym post.answer)
+  says_so = ap (λ (k : ℕ). unpacked_says (unpacked_of k batch) (batch_text batch)) (sym size) ∙ ap (λ (x : Result ℕ UnpackError). unpacked_says x (batch_text batch)) (sym post.answer)
 
-  says_as : {known : Unpacked} → r ≡ known → batch_says batch ≡ unpacked_says known (batch_text batch)
-  says_as e = says_so ∙ ap (λ (x : Unpacked). unpacked_says x (batch_text batch)) e
+  says_as : {known : Result ℕ UnpackError} → r ≡ known → batch_says batch ≡ unpacked_says known (batch_text batch)
+  says_as e = says_so ∙ ap (λ (x : Result ℕ UnpackError). unpacked_says x (batch_text batch)) e
 
-  now_as : {known : Unpacked} → r ≡ known → now ≡ sets before 0 (put_of known (batch_text batch))
-  now_as e = post.output ∙ ap (λ (x : Unpacked). sets before 0 (put_of x (batch_text batch))) e
+  now_as : {known : Result ℕ UnpackError} → r ≡ known → now ≡ sets before 0 (put_of known (batch_text batch))
+  now_as e = post.output ∙ ap (λ (x : Result ℕ UnpackError). sets before 0 (put_of x (batch_text batch))) e
 
   cells_kept : length indices ≡ length cells → {w : Saying} {said : Said} {after : List ℕ} → batch_says batch ≡ w → SaidPost w before said after
       → UnpackReply (batch_says batch) cells before said indices after
   cells_kept free {said = said} {after} e s = record { said = subst (λ (x : Saying). SaidPost x before said after) (sym e) s; free = free }
 
   -- The text is that of the answer's length, and fits.
-  text_fits : (n : ℕ) → r ≡ Text n → (n ≡ length (batch_text batch)) × (length (batch_text batch) ≤ length before)
+  text_fits : (n : ℕ) → r ≡ Ok n → (n ≡ length (batch_text batch)) × (length (batch_text batch) ≤ length before)
   unfolding unpacked_of
   text_fits n e = by (eqb (chain_of batch).ending 0) (leb (length (batch_text batch)) (length before)) refl (sym e ∙ post.answer)
     where
       by : (s t : Bool) → leb (length (batch_text batch)) (length before) ≡ t
-          → Text n ≡ cond s (cond t (Text (length (batch_text batch))) Long) (Broken (length (chain_of batch).indices) (chain_of batch).ending)
+          → Ok n ≡ cond s (cond t (Ok (length (batch_text batch))) (Err TooLong)) (Err (Broken (length (chain_of batch).indices) (chain_of batch).ending))
           → (n ≡ length (batch_text batch)) × (length (batch_text batch) ≤ length before)
       by true true f g = (cc, leb-true (length (batch_text batch)) (length before) f)
       by true false f g = absurd (let z : ◌≡◌ {A = ℕ} 0 1 = cc in omega arith)
       by false t f g = absurd (let z : ◌≡◌ {A = ℕ} 0 1 = cc in omega arith)
 
-  pub text_said : (n : ℕ) → length indices ≡ length cells → r ≡ Text n → UnpackReply (batch_says batch) cells before (Out n) indices now
+  pub text_said : (n : ℕ) → length indices ≡ length cells → r ≡ Ok n → UnpackReply (batch_says batch) cells before (Out n) indices now
   text_said n free e = cells_kept free (says_as e) (let f = text_fits n e in said_out before (batch_text batch) f.1 f.0 (now_as e))
 
   -- Nothing was put.
-  pub message_said : {known : Unpacked} {w : Saying} {said : Said} {after : List ℕ} → length indices ≡ length cells → r ≡ known
+  pub message_said : {known : Result ℕ UnpackError} {w : Saying} {said : Said} {after : List ℕ} → length indices ≡ length cells → r ≡ known
       → unpacked_says known (batch_text batch) ≡ w → put_of known (batch_text batch) ≡ [] → SaidPost w now said after → UnpackReply (batch_says batch) cells before said indices after
   message_said {w = w} {said} {after} free e f none s =
       cells_kept free (says_as e ∙ f) (subst (λ (l : List ℕ). SaidPost w l said after) (now_as e ∙ ap (sets before 0) none) s)
 
-  pub broken_records : (records ending : ℕ) → r ≡ Broken records ending → records ≤ 65536
+  pub broken_records : (records ending : ℕ) → r ≡ Err (Broken records ending) → records ≤ 65536
   unfolding unpacked_of
   broken_records records ending e = by (eqb (chain_of batch).ending 0) (leb (length (batch_text batch)) (length before)) (sym e ∙ post.answer)
     where
-      by : (s t : Bool) → Broken records ending ≡ cond s (cond t (Text (length (batch_text batch))) Long) (Broken (length (chain_of batch).indices) (chain_of batch).ending)
+      by : (s t : Bool) → Err (Broken records ending) ≡ cond s (cond t (Ok (length (batch_text batch))) (Err TooLong)) (Err (Broken (length (chain_of batch).indices) (chain_of batch).ending))
           → records ≤ 65536
       by true true g = absurd (let z : ◌≡◌ {A = ℕ} 0 1 = cc in omega arith)
       by true false g = absurd (let z : ◌≡◌ {A = ℕ} 0 1 = cc in omega arith)
@@ -159,7 +157,7 @@ full_says buf e =
     ap
     (λ (c : Chain).
     unpacked_says
-    (cond (eqb c.ending 0) (cond (leb (length (batch_text buf)) 1048576) (Text (length (batch_text buf))) Long) (Broken (length c.indices) c.ending))
+    (cond (eqb c.ending 0) (cond (leb (length (batch_text buf)) 1048576) (Ok (length (batch_text buf))) (Err TooLong)) (Err (Broken (length c.indices) c.ending)))
     (batch_text buf))
     (chain_is buf long)
 

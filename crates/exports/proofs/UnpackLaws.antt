@@ -18,7 +18,8 @@ use Rattle.batch.specs.Unpacking.{WalkedPost}
 use Rattle.batch.proofs.ChainLaws.{chain_is, batch_size}
 use Rattle.console.specs.Output.{hex_text, HexPost}
 use Rattle.console.proofs.OutputLaws.{part_put}
-use Rattle.exports.specs.declared.unpacking.Unpacked.TheVariants.{Text, Broken, Long}
+use Rattle.std.specs.Prelude.{Ok, Err}
+use Rattle.exports.specs.declared.unpacking.UnpackError.TheVariants.{Broken, TooLong}
 use Rattle.exports.specs.Text.{line_of, text_of}
 use Rattle.exports.specs.Unpacking.{batch_text, unpacked_of, UnpackedPost}
 
@@ -119,28 +120,28 @@ module _ (batch cells out : List ℕ) (w : Walked) (indices : List ℕ) (walked 
   pub walked_text : text_of (map (state_at batch) (take w.records indices)) ≡ batch_text batch
   walked_text = ap (λ (l : List ℕ). text_of (map (state_at batch) l)) walked.front
 
-  pub unpack_broken : (w.ending ≡ 0 → ⊥) → UnpackedPost batch cells out (Broken w.records w.ending) indices out
+  pub unpack_broken : (w.ending ≡ 0 → ⊥) → UnpackedPost batch cells out (Err (Broken w.records w.ending)) indices out
   unfolding unpacked_of
   unpack_broken n =
       record {
         answer =
-            ap₂ Broken walked.records walked.ending
+            ap₂ (λ (r e : ℕ). Err (Broken r e)) walked.records walked.ending
             ∙ sym
-            (ap (λ (t : Bool). cond t (cond (leb (length (batch_text batch)) (length out)) (Text (length (batch_text batch))) Long) (Broken (length (chain_of batch).indices) (chain_of batch).ending))
+            (ap (λ (t : Bool). cond t (cond (leb (length (batch_text batch)) (length out)) (Ok (length (batch_text batch))) (Err TooLong)) (Err (Broken (length (chain_of batch).indices) (chain_of batch).ending)))
             (ne_eqb (chain_of batch).ending 0 (λ (z : (chain_of batch).ending ≡ 0). n (walked.ending ∙ z))));
         output = refl;
         walked = walked_so;
       }
 
   module _ (e : w.ending ≡ 0) where
-    ended : (t : Bool) → leb (length (batch_text batch)) (length out) ≡ t → unpacked_of (length out) batch ≡ cond t (Text (length (batch_text batch))) Long
+    ended : (t : Bool) → leb (length (batch_text batch)) (length out) ≡ t → unpacked_of (length out) batch ≡ cond t (Ok (length (batch_text batch))) (Err TooLong)
     unfolding unpacked_of
     ended t f =
-        ap (λ (b : Bool). cond b (cond (leb (length (batch_text batch)) (length out)) (Text (length (batch_text batch))) Long) (Broken (length (chain_of batch).indices) (chain_of batch).ending))
+        ap (λ (b : Bool). cond b (cond (leb (length (batch_text batch)) (length out)) (Ok (length (batch_text batch))) (Err TooLong)) (Err (Broken (length (chain_of batch).indices) (chain_of batch).ending)))
         (eq-eqb (chain_of batch).ending 0 (sym walked.ending ∙ e))
-        ∙ ap (λ (b : Bool). cond b (Text (length (batch_text batch))) Long) f
+        ∙ ap (λ (b : Bool). cond b (Ok (length (batch_text batch))) (Err TooLong)) f
 
-    pub unpack_long : length out < length (text_of (map (state_at batch) (take w.records indices))) → UnpackedPost batch cells out Long indices out
+    pub unpack_long : length out < length (text_of (map (state_at batch) (take w.records indices))) → UnpackedPost batch cells out (Err TooLong) indices out
     unpack_long h =
         record {
           answer = sym (ended false (lt-leb (length (batch_text batch)) (length out) (omega (arith, ap (λ (l : List ℕ). length l) walked_text))));
@@ -149,11 +150,11 @@ module _ (batch cells out : List ℕ) (w : Walked) (indices : List ℕ) (walked 
         }
 
     pub unpack_text : (now : List ℕ) (r : ℕ) → length (text_of (map (state_at batch) (take w.records indices))) ≤ length out
-        → PutPost out 0 (text_of (map (state_at batch) (take w.records indices))) r now → UnpackedPost batch cells out (Text r) indices now
+        → PutPost out 0 (text_of (map (state_at batch) (take w.records indices))) r now → UnpackedPost batch cells out (Ok r) indices now
     unpack_text now r h p =
         let size : r ≡ length (batch_text batch) = omega (arith, p.next, ap (λ (l : List ℕ). length l) walked_text) in
         record {
-          answer = ap Text size ∙ sym (ended true (le-leb (length (batch_text batch)) (length out) (omega (arith, ap (λ (l : List ℕ). length l) walked_text))));
+          answer = ap Ok size ∙ sym (ended true (le-leb (length (batch_text batch)) (length out) (omega (arith, ap (λ (l : List ℕ). length l) walked_text))));
           output = p.output ∙ ap (sets out 0) walked_text;
           walked = walked_so;
         }

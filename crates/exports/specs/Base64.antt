@@ -1,8 +1,6 @@
 -- Base64, as RFC 4648 has it in section 4.
-use Rattle.std.specs.Prelude.{◌≡◌, List, [], ◌∷◌, cond, ℕ, ◌+◌, ◌*◌, ◌/◌, ◌%◌, ◌≤◌, ◌<◌, ltb, eqb, length, take}
-use Rattle.std.proofs.Math.Option.{Option, none, some}
-use Rattle.console.specs.Input.{up_to}
-use Rattle.exports.specs.Words.{ahead}
+use Rattle.std.specs.Prelude.{List, [], ◌∷◌, cond, ℕ, ◌+◌, ◌*◌, ◌/◌, ◌%◌, ◌≤◌, ◌<◌, ltb, eqb, Option, Some, None, length, take}
+use Rattle.console.specs.Input.{up_to, onto}
 
 -- "Table 1: The Base 64 Alphabet", in the order of the values: A to Z, a to z, 0 to 9, + and /.
 unfoldable pub alphabet : List ℕ
@@ -13,50 +11,47 @@ alphabet =
     ∷ 43 ∷ 47
     ∷ []
 
--- The value of a character: its place in the table. 64 is no value.
-unfoldable pub sextet_of : ℕ → ℕ
-sextet_of b = up_to b alphabet
+-- The value of a character: its place in the table. Any other byte has none.
+unfoldable pub sextet_of : ℕ → Option ℕ
+sextet_of b = cond (ltb (up_to b alphabet) 64) (Some (up_to b alphabet)) None
 
--- "These 24 bits are then treated as 4 concatenated 6-bit groups." 2^24 is no such number: one of the four has no value.
-unfoldable pub bits_of : ℕ → ℕ → ℕ → ℕ → ℕ
-bits_of a b c d =
-    cond (ltb a 64) (cond (ltb b 64) (cond (ltb c 64) (cond (ltb d 64) (a * 262144 + b * 4096 + c * 64 + d) 16777216) 16777216) 16777216) 16777216
+-- "These 24 bits are then treated as 4 concatenated 6-bit groups." One of the four may have no value.
+abbrev pub bits_of : Option ℕ → Option ℕ → Option ℕ → Option ℕ → Option ℕ
+bits_of None b c d = None
+bits_of (Some a) None c d = None
+bits_of (Some a) (Some b) None d = None
+bits_of (Some a) (Some b) (Some c) None = None
+bits_of (Some a) (Some b) (Some c) (Some d) = Some (a * 262144 + b * 4096 + c * 64 + d)
 
 -- "A 24-bit input group is formed by concatenating 3 8-bit input groups."
 abbrev pub three_of : ℕ → List ℕ
 three_of v = v / 65536 ∷ v / 256 % 256 ∷ v % 256 ∷ []
 
-abbrev pub group_then : ℕ → Option (List ℕ) → Option (List ℕ)
-group_then v rest = cond (ltb v 16777216) (ahead (three_of v) rest) none
+abbrev pub group_then : Option ℕ → Option (List ℕ) → Option (List ℕ)
+group_then None rest = None
+group_then (Some v) rest = onto (three_of v) rest
 
 -- The last group has k bytes: "bits with value zero are added (on the right)", so that of the 24 bits those below `unit` are 0.
-abbrev pub end_of : ℕ → ℕ → ℕ → Option (List ℕ)
-end_of k unit v = cond (ltb v 16777216) (cond (eqb (v % unit) 0) (some (take k (three_of v))) none) none
+abbrev pub end_of : ℕ → ℕ → Option ℕ → Option (List ℕ)
+end_of k unit None = None
+end_of k unit (Some v) = cond (eqb (v % unit) 0) (Some (take k (three_of v))) None
 
 -- The last group may be padded: "two characters followed by two "=" padding characters" are 8 bits, "three characters followed by one "=" padding
 -- character" are 16. "=" is 61.
 unfoldable pub last_group : ℕ → ℕ → ℕ → ℕ → Option (List ℕ)
 last_group a b c d =
     cond (eqb d 61)
-    (cond (eqb c 61) (end_of 1 65536 (bits_of (sextet_of a) (sextet_of b) 0 0)) (end_of 2 256 (bits_of (sextet_of a) (sextet_of b) (sextet_of c) 0)))
+    (cond (eqb c 61) (end_of 1 65536 (bits_of (sextet_of a) (sextet_of b) (Some 0) (Some 0))) (end_of 2 256 (bits_of (sextet_of a) (sextet_of b) (sextet_of c) (Some 0))))
     (end_of 3 1 (bits_of (sextet_of a) (sextet_of b) (sextet_of c) (sextet_of d)))
 
 -- A word as a byte string: groups of four characters.
 unfoldable pub base64_of : List ℕ → Option (List ℕ)
-base64_of [] = some []
-base64_of (a ∷ []) = none
-base64_of (a ∷ b ∷ []) = none
-base64_of (a ∷ b ∷ c ∷ []) = none
+base64_of [] = Some []
+base64_of (a ∷ []) = None
+base64_of (a ∷ b ∷ []) = None
+base64_of (a ∷ b ∷ c ∷ []) = None
 base64_of (a ∷ b ∷ c ∷ d ∷ []) = last_group a b c d
 base64_of (a ∷ b ∷ c ∷ d ∷ e ∷ l) = group_then (bits_of (sextet_of a) (sextet_of b) (sextet_of c) (sextet_of d)) (base64_of (e ∷ l))
-
-pub record SextetPost (b r : ℕ) : Type 0 where
-  pub value : r ≡ sextet_of b
-  pub small : r ≤ 64
-
-pub record BitsPost (a b c d r : ℕ) : Type 0 where
-  pub value : r ≡ bits_of a b c d
-  pub small : r ≤ 16777216
 
 -- Four characters of the word, and room for three bytes.
 pub record GroupPre (word out : List ℕ) (at n : ℕ) : Type 0 where
@@ -65,6 +60,7 @@ pub record GroupPre (word out : List ℕ) (at n : ℕ) : Type 0 where
 
 -- What the end of a group takes: its bits, how many of its three bytes count, and what divides the bits.
 pub record EndPre (v k unit n room : ℕ) : Type 0 where
+  pub bits : v < 16777216
   pub few : k ≤ 3
   pub some_unit : 0 < unit
   pub room_for : n + 3 ≤ room

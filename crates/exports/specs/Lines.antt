@@ -1,9 +1,8 @@
 -- The lines of a text, and the state that a line spells.
-use Rattle.std.specs.Prelude.{List, [], ◌∷◌, cond, ℕ, eqb}
-use Rattle.std.proofs.Math.Option.{Option, none, some}
-use Rattle.console.specs.Input.{hex_of}
+use Rattle.std.specs.Prelude.{List, [], ◌∷◌, cond, ℕ, eqb, Option, Some, None}
+use Rattle.console.specs.Input.{pairs_of}
 use Rattle.exports.specs.Base64.{base64_of}
-use Rattle.exports.specs.Hexadecimal.{lowered}
+use Rattle.exports.specs.Hexadecimal.{any_digit_of}
 
 -- A byte in front of the first line.
 abbrev pub on_first : ℕ → List (List ℕ) → List (List ℕ)
@@ -22,12 +21,12 @@ trimmed (b ∷ []) = cond (eqb b 13) [] (b ∷ [])
 trimmed (b ∷ c ∷ l) = b ∷ trimmed (c ∷ l)
 
 abbrev pub or_else : Option (List ℕ) → Option (List ℕ) → Option (List ℕ)
-or_else none other = other
-or_else (some s) other = some s
+or_else None other = other
+or_else (Some s) other = Some s
 
 -- A word is hexadecimal where it can be, else base64.
 unfoldable pub state_of : List ℕ → Option (List ℕ)
-state_of word = or_else (hex_of (lowered word)) (base64_of word)
+state_of word = or_else (pairs_of any_digit_of word) (base64_of word)
 
 -- What a line holds: nothing where it is empty, a state, or what is neither hexadecimal nor base64.
 pub data Held : Type 0 where
@@ -36,8 +35,8 @@ pub data Held : Type 0 where
   other : Held
 
 abbrev pub held_by : Option (List ℕ) → Held
-held_by none = other
-held_by (some s) = state s
+held_by None = other
+held_by (Some s) = state s
 
 abbrev pub held : List ℕ → Held
 held [] = nothing

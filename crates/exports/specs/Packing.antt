@@ -1,12 +1,10 @@
 -- What packing the lines of a text comes to.
-use Rattle.std.specs.Prelude.{◌≡◌, List, [], ◌∷◌, ◌++◌, Bool, true, false, cond, ℕ, ◌+◌, ◌≤◌, leb, length}
+use Rattle.std.specs.Prelude.{◌≡◌, List, [], ◌∷◌, ◌++◌, Bool, true, false, cond, ℕ, ◌+◌, ◌≤◌, leb, Result, Ok, Err, length}
 use Rattle.std.proofs.lemmas.List.Edits.{sets}
 use Rattle.batch.specs.Packing.{packed, RecordPost}
 use Rattle.exports.specs.declared.packing.Place.{Place}
-use Rattle.exports.specs.declared.packing.Turn.{Turn}
-use Rattle.exports.specs.declared.packing.Turn.TheVariants.{Next, Other, Long}
-use Rattle.exports.specs.declared.packing.Packed.{Packed}
-use Rattle.exports.specs.declared.packing.Packed.TheVariants.{Batch, BadLine, TooLong}
+use Rattle.exports.specs.declared.packing.PackError.{PackError}
+use Rattle.exports.specs.declared.packing.PackError.TheVariants.{BadLine, TooLong}
 use Rattle.exports.specs.Lines.{Held, nothing, state, other, held, trimmed, lines_of}
 
 -- How packing ends: with the last line; or with the number of the first line that spells no state, or whose record does not fit.
@@ -41,39 +39,34 @@ packing room n end (line ∷ lines) = line_then room (n + 1) end (held (trimmed 
 abbrev pub packing_of : ℕ → List ℕ → Packing
 packing_of room text = packing room 0 4 (lines_of text)
 
--- A record put behind the batch so far, which ends at `end` and whose chain ends at `last`; or there is no room for it.
-abbrev pub FitPost : Bool → List ℕ → Place → List ℕ → Turn → List ℕ → Type 0
-FitPost true out p s r now = (r ≡ Next (record { last = p.end; end = p.end + 8 + length s })) × RecordPost out p.last p.end s (p.end + 8 + length s) now
-FitPost false out p s r now = (r ≡ Long) × (now ≡ out)
+-- The record of line n put behind the batch so far, which ends at `end` and whose chain ends at `last`; or there is no room for it.
+abbrev pub FitPost : Bool → ℕ → List ℕ → Place → List ℕ → Result Place PackError → List ℕ → Type 0
+FitPost true n out p s r now = (r ≡ Ok (record { last = p.end; end = p.end + 8 + length s })) × RecordPost out p.last p.end s (p.end + 8 + length s) now
+FitPost false n out p s r now = (r ≡ Err (TooLong n)) × (now ≡ out)
 
-abbrev pub TurnPost : Held → List ℕ → Place → Turn → List ℕ → Type 0
-TurnPost nothing out p r now = (r ≡ Next p) × (now ≡ out)
-TurnPost (state s) out p r now = FitPost (leb (p.end + 8 + length s) (length out)) out p s r now
-TurnPost other out p r now = (r ≡ Other) × (now ≡ out)
+abbrev pub LinePost : Held → ℕ → List ℕ → Place → Result Place PackError → List ℕ → Type 0
+LinePost nothing n out p r now = (r ≡ Ok p) × (now ≡ out)
+LinePost (state s) n out p r now = FitPost (leb (p.end + 8 + length s) (length out)) n out p s r now
+LinePost other n out p r now = (r ≡ Err (BadLine n)) × (now ≡ out)
 
 -- The batch so far lies inside, and there is room to read the word into.
-pub record TurnPre (word spare out : List ℕ) (p : Place) : Type 0 where
+pub record LinePre (word spare out : List ℕ) (p : Place) : Type 0 where
   pub behind : p.last + 4 ≤ p.end
   pub inside : p.end ≤ length out
   pub room : length word ≤ length spare
 
-abbrev pub refusal : Turn → ℕ → Packed
-refusal (Next p) n = Batch 0
-refusal Other n = BadLine n
-refusal Long n = TooLong n
-
 -- The answer: the length of the batch, or the number of a line.
-abbrev pub packed_by : Stop → ℕ → Packed
-packed_by finished n = Batch n
-packed_by (bad line) n = BadLine line
-packed_by (long line) n = TooLong line
+abbrev pub packed_by : Stop → ℕ → Result ℕ PackError
+packed_by finished n = Ok n
+packed_by (bad line) n = Err (BadLine line)
+packed_by (long line) n = Err (TooLong line)
 
-abbrev pub packed_of : Packing → Packed
+abbrev pub packed_of : Packing → Result ℕ PackError
 packed_of x = packed_by x.stop (length (packed x.states))
 
 -- The batch of the states stands at the front of `out`, also where a line is refused, and the bytes past it are untouched. What is free is named in `free`:
 -- `spare` holds anything, as many bytes as it had.
-pub record PackedPost (x : Packing) (spare out : List ℕ) (r : Packed) (left now : List ℕ) : Type 0 where
+pub record PackedPost (x : Packing) (spare out : List ℕ) (r : Result ℕ PackError) (left now : List ℕ) : Type 0 where
   pub answer : r ≡ packed_of x
   pub output : now ≡ sets out 0 (packed x.states)
   pub inside : length (packed x.states) ≤ length out

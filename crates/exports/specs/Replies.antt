@@ -1,19 +1,16 @@
 -- What the programs `pack` and `unpack` say, by what came in: a text for standard output, or a message for standard error.
-use Rattle.std.specs.Prelude.{◌≡◌, List, ◌∷◌, ◌++◌, cond, ℕ, ◌+◌, ◌-◌, ◌/◌, ◌%◌, ◌≤◌, eqb, length, take}
+use Rattle.std.specs.Prelude.{◌≡◌, List, [], ◌∷◌, ◌++◌, cond, ℕ, ◌+◌, ◌-◌, ◌/◌, ◌%◌, ◌≤◌, eqb, Result, Ok, Err, decimal, length, take}
 use Rattle.std.specs.Counts.{IsPrefixLen}
-use Rattle.console.specs.Digits.{last_digits}
 use Rattle.console.specs.declared.input.Arrived.{Arrived}
-use Rattle.console.specs.declared.input.Stream.{Stream}
-use Rattle.console.specs.declared.input.Stream.TheVariants.{All, Failed, Full}
+use Rattle.console.specs.declared.input.StreamError.TheVariants.{Failed, Full}
 use Rattle.console.specs.declared.output.Said.{Said}
-use Rattle.console.specs.Input.{ArrivedIn}
+use Rattle.console.specs.Input.{Stream, ArrivedIn}
 use Rattle.console.specs.Output.{ascii, Saying, out, err, size_of, saying_of, SaidPost}
-use Rattle.console.specs.Numbers.{decimal_text}
 use Rattle.batch.specs.Packing.{packed}
-use Rattle.exports.specs.declared.packing.Packed.{Packed}
-use Rattle.exports.specs.declared.packing.Packed.TheVariants.{Batch, BadLine, TooLong}
-use Rattle.exports.specs.declared.unpacking.Unpacked.{Unpacked}
-use Rattle.exports.specs.declared.unpacking.Unpacked.TheVariants.{Text, Broken, Long}
+use Rattle.exports.specs.declared.packing.PackError.{PackError}
+use Rattle.exports.specs.declared.packing.PackError.TheVariants.{BadLine, TooLong as BatchTooLong}
+use Rattle.exports.specs.declared.unpacking.UnpackError.{UnpackError}
+use Rattle.exports.specs.declared.unpacking.UnpackError.TheVariants.{Broken, TooLong as TextTooLong}
 use Rattle.exports.specs.Packing.{packing_of, packed_of}
 use Rattle.exports.specs.Unpacking.{batch_text, unpacked_of}
 
@@ -25,13 +22,13 @@ Says w r text = (saying_of r text ≡ w) × IsPrefixLen (size_of r) text
 
 -- What is wrong with a line, by its number.
 abbrev pub line_message : ℕ → List ℕ → List ℕ
-line_message line what = (ascii "pack: line " ++ decimal_text line) ++ what
+line_message line what = (ascii "pack: line " ++ decimal line) ++ what
 
 -- The batch; or nothing but a message, where a line is refused.
-abbrev pub packed_says : Packed → List ℕ → Saying
-packed_says (Batch n) batch = out batch
-packed_says (BadLine line) batch = err (line_message line (ascii " is neither hexadecimal nor base64\n"))
-packed_says (TooLong line) batch = err (line_message line (ascii " makes the batch longer than 65,536 bytes\n"))
+abbrev pub packed_says : Result ℕ PackError → List ℕ → Saying
+packed_says (Ok n) batch = out batch
+packed_says (Err (BadLine line)) batch = err (line_message line (ascii " is neither hexadecimal nor base64\n"))
+packed_says (Err (BatchTooLong line)) batch = err (line_message line (ascii " makes the batch longer than 65,536 bytes\n"))
 
 -- The lines of a text, packed into 65,536 bytes.
 unfoldable pub lines_say : List ℕ → Saying
@@ -39,13 +36,13 @@ lines_say text = packed_says (packed_of (packing_of 65536 text)) (packed (packin
 
 -- A number from 1,000 to 999,999, with a comma, 44, before its last three digits.
 abbrev pub thousands : ℕ → List ℕ
-thousands n = decimal_text (n / 1000) ++ (44 ∷ last_digits 10 3 (n % 1000))
+thousands n = decimal (n / 1000) ++ (44 ∷ (48 + n / 100 % 10) ∷ (48 + n / 10 % 10) ∷ (48 + n % 10) ∷ [])
 
 -- By the stream that was read into `buf`. One that fills the buffer is longer than any that does not, and so than all of its bytes but one.
 abbrev pub pack_says : Stream → List ℕ → Saying
-pack_says (All n) buf = lines_say (take n buf)
-pack_says Failed buf = err (ascii "pack: standard input cannot be read\n")
-pack_says Full buf = err (ascii "pack: standard input is longer than " ++ (thousands (length buf - 1) ++ ascii " bytes\n"))
+pack_says (Ok n) buf = lines_say (take n buf)
+pack_says (Err Failed) buf = err (ascii "pack: standard input cannot be read\n")
+pack_says (Err Full) buf = err (ascii "pack: standard input is longer than " ++ (thousands (length buf - 1) ++ ascii " bytes\n"))
 
 -- The memory that `pack` lends: so that a stream that fills `lines` is longer than 262,144 bytes, and a batch that does not fit is longer than 65,536.
 pub record PackMemory (arrived : Arrived) (lines spare batch : List ℕ) : Type 0 where
@@ -68,22 +65,22 @@ broken_at records ending = cond (eqb ending 24) 0 (records + 1)
 -- A chain of so many records that ends with the number of a question.
 abbrev pub chain_message : ℕ → ℕ → List ℕ
 chain_message records ending =
-    (ascii "unpack: the chain breaks at record " ++ decimal_text (broken_at records ending)) ++ ((ascii " with " ++ decimal_text ending) ++ ascii "\n")
+    (ascii "unpack: the chain breaks at record " ++ decimal (broken_at records ending)) ++ ((ascii " with " ++ decimal ending) ++ ascii "\n")
 
 -- The text; or nothing but a message.
-abbrev pub unpacked_says : Unpacked → List ℕ → Saying
-unpacked_says (Text n) text = out text
-unpacked_says (Broken records ending) text = err (chain_message records ending)
-unpacked_says Long text = err (ascii "unpack: the text is longer than 1,048,576 bytes\n")
+abbrev pub unpacked_says : Result ℕ UnpackError → List ℕ → Saying
+unpacked_says (Ok n) text = out text
+unpacked_says (Err (Broken records ending)) text = err (chain_message records ending)
+unpacked_says (Err TextTooLong) text = err (ascii "unpack: the text is longer than 1,048,576 bytes\n")
 
 unfoldable pub batch_says : List ℕ → Saying
 batch_says batch = unpacked_says (unpacked_of 1048576 batch) (batch_text batch)
 
 -- By the stream that was read into `buf`, which has one byte more than the longest batch: "24: at most 65,536 bytes".
 abbrev pub unpack_says : Stream → List ℕ → Saying
-unpack_says (All n) buf = batch_says (take n buf)
-unpack_says Failed buf = err (ascii "unpack: standard input cannot be read\n")
-unpack_says Full buf = err (chain_message 0 24)
+unpack_says (Ok n) buf = batch_says (take n buf)
+unpack_says (Err Failed) buf = err (ascii "unpack: standard input cannot be read\n")
+unpack_says (Err Full) buf = err (chain_message 0 24)
 
 -- The memory that `unpack` lends: so that a stream that fills `buf` is longer than 65,536 bytes, and a text that does not fit is longer than 1,048,576.
 pub record UnpackMemory (arrived : Arrived) (buf indices text : List ℕ) : Type 0 where

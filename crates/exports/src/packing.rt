@@ -1,12 +1,11 @@
 // A batch of the states that the lines of a text spell.
 ghost use Rattle.std.specs.Prelude.{◌≡◌, length};
 ghost use Rattle.exports.specs.Lines.{held};
-ghost use Rattle.exports.specs.Packing.{packing_of, refusal, TurnPre, TurnPost, PackPre, PackedPost};
+ghost use Rattle.exports.specs.Packing.{packing_of, LinePre, LinePost, PackPre, PackedPost};
 
 use crate::lines;
 use batch::packing;
-use console::input;
-use console::input::Bytes;
+use console::input::Pieces;
 
 // Where the batch so far ends, and where the index stands that ends its chain.
 #[derive(Clone, Copy)]
@@ -15,56 +14,34 @@ pub struct Place {
     pub end: usize,
 }
 
-// A line is packed or empty, or spells no state, or there is no room for its record.
-#[derive(Clone, Copy)]
-pub enum Turn {
-    Next(Place),
-    Other,
-    Long,
-}
-
-// How many bytes the batch has; or the number of the first line that spells no state, or whose record does not fit.
-#[derive(Clone, Copy)]
-pub enum Packed {
-    Batch(usize),
+// The number of the first line that spells no state, or whose record does not fit.
+#[derive(Clone, Copy, Debug, PartialEq, Eq)]
+pub enum PackError {
     BadLine(usize),
     TooLong(usize),
 }
 
-fn pack_word(word: &[u8], spare: &mut [u8], out: &mut [u8], p: Place) -> Turn
-    requires { TurnPre word.now spare.old out.old p }
-    ensures { TurnPost (held word.now) out.old p result out.new }
+// Packs the state of line n, where it has one.
+fn pack_line(word: &[u8], n: usize, spare: &mut [u8], out: &mut [u8], p: Place) -> Result<Place, PackError>
+    requires { LinePre word.now spare.old out.old p }
+    ensures { LinePost (held word.now) n out.old p result out.new }
 {
-    if word.len() == 0 {
-        return Turn::Next(p);
+    if word.is_empty() {
+        return Ok(p);
     }
-    let r = lines::read_state(word, spare);
-    let Bytes::Count(n) = r else {
-        return Turn::Other;
+    let Some(len) = lines::read_state(word, spare) else {
+        return Err(PackError::BadLine(n));
     };
-    let room = out.len() - p.end;
-    if room < 8 {
-        return Turn::Long;
+    if out.len() - p.end < len + 8 {
+        return Err(PackError::TooLong(n));
     }
-    if room - 8 < n {
-        return Turn::Long;
-    }
-    let end = packing::put_record(out, p.last, p.end, &spare[..n]);
-    Turn::Next(Place { last: p.end, end })
+    let end = packing::put_record(out, p.last, p.end, &spare[..len]);
+    Ok(Place { last: p.end, end })
 }
 
-fn refused(r: Turn, line: usize) -> Packed
-    ensures { result ≡ refusal r line }
-{
-    match r {
-        Turn::Next(_p) => Packed::Batch(0),
-        Turn::Other => Packed::BadLine(line),
-        Turn::Long => Packed::TooLong(line),
-    }
-}
-
-// Packs the states of the lines into `out`, in their order, up to the first line that is refused. A state is read into `spare` first.
-pub fn pack(text: &[u8], spare: &mut [u8], out: &mut [u8]) -> Packed
+// Packs the states of the lines into `out`, in their order, up to the first line that is refused. The answer is how many bytes the batch has. A state is read
+// into `spare` first.
+pub fn pack(text: &[u8], spare: &mut [u8], out: &mut [u8]) -> Result<usize, PackError>
     requires { PackPre text.now spare.old out.old }
     ensures { PackedPost (packing_of (length out.old) text.now) spare.old out.old result spare.new out.new }
 {
@@ -73,18 +50,10 @@ pub fn pack(text: &[u8], spare: &mut [u8], out: &mut [u8]) -> Packed
         last: 0,
         end: first,
     };
-    let mut at: usize = 0;
-    let mut line: usize = 0;
-    while at < text.len() {
-        let stop = input::find(text, at, b'\n');
-        let word = lines::trim(&text[at..stop]);
-        let r = pack_word(word, spare, out, p);
-        line += 1;
-        let Turn::Next(q) = r else {
-            return refused(r, line);
-        };
-        p = q;
-        at = stop + 1;
+    let mut n: usize = 0;
+    for piece in Pieces::new(text, b'\n') {
+        n += 1;
+        p = pack_line(lines::trim(piece), n, spare, out, p)?;
     }
-    Packed::Batch(p.end)
+    Ok(p.end)
 }

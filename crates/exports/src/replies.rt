@@ -1,28 +1,25 @@
 // What the programs say: a text for standard output, or a message for standard error, by what came in. All of it is made here; a program only reads, lends
 // memory and writes.
-ghost use Rattle.std.specs.Prelude.{◌≡◌, ◌++◌, ◌+◌, ◌≤◌, length};
+ghost use Rattle.std.specs.Prelude.{◌≡◌, ◌++◌, ◌+◌, ◌≤◌, length, decimal};
 ghost use Rattle.wire.specs.Varints.{PutPost};
 ghost use Rattle.console.specs.Output.{SaidPost, err};
-ghost use Rattle.console.specs.Numbers.{decimal_text};
 ghost use Rattle.exports.specs.Replies.{line_message, lines_say, pack_says, broken_at, chain_message, batch_says, unpack_says, PackMemory, PackReply, UnpackMemory, UnpackReply};
 
-use crate::packing::Packed;
-use crate::unpacking::Unpacked;
+use crate::packing::PackError;
+use crate::unpacking::UnpackError;
 use crate::{packing, unpacking};
-use console::input::{Arrived, Stream};
-use console::numbers::decimal;
+use console::input::{Arrived, StreamError};
 use console::output::Said;
 use wire::encoding::put_bytes;
 
 // Puts a piece of text and then a number in decimal at `at`, and answers the position past them.
 fn put_numbered(text: &mut [u8], at: usize, piece: &[u8], n: usize) -> usize
     requires { at + length piece.now + 20 ≤ length text.old }
-    ensures { PutPost text.old at (piece.now ++ decimal_text n) result text.new }
+    ensures { PutPost text.old at (piece.now ++ decimal n) result text.new }
 {
-    let mut digits = [0u8; 20];
-    let k = decimal(n as u64, &mut digits);
+    let mut digits = itoa::Buffer::new();
     let next = put_bytes(text, at, piece);
-    put_bytes(text, next, &digits[..k])
+    put_bytes(text, next, digits.format(n).as_bytes())
 }
 
 fn complain(text: &mut [u8], message: &[u8]) -> Said
@@ -45,10 +42,7 @@ fn broken_at(records: usize, ending: u8) -> usize
     requires { records ≤ 65536 }
     ensures { result ≡ broken_at records ending }
 {
-    if ending == 24 {
-        return 0;
-    }
-    records + 1
+    if ending == 24 { 0 } else { records + 1 }
 }
 
 fn complain_of_chain(text: &mut [u8], records: usize, ending: u8) -> Said
@@ -65,15 +59,14 @@ fn pack_lines(lines: &[u8], spare: &mut [u8], out: &mut [u8]) -> Said
     requires { (length lines.now ≤ length spare.old) × (length out.old ≡ 65536) }
     ensures { PackReply (lines_say lines.now) spare.old out.old result spare.new out.new }
 {
-    let r = packing::pack(lines, spare, out);
-    match r {
-        Packed::Batch(n) => Said::Out(n),
-        Packed::BadLine(line) => complain_of_line(
+    match packing::pack(lines, spare, out) {
+        Ok(n) => Said::Out(n),
+        Err(PackError::BadLine(line)) => complain_of_line(
             out,
             line,
             b" is neither hexadecimal nor base64\n",
         ),
-        Packed::TooLong(line) => complain_of_line(
+        Err(PackError::TooLong(line)) => complain_of_line(
             out,
             line,
             b" makes the batch longer than 65,536 bytes\n",
@@ -86,11 +79,10 @@ pub(crate) fn pack_reply(arrived: Arrived, lines: &[u8], spare: &mut [u8], out: 
     requires { PackMemory arrived lines.now spare.old out.old }
     ensures { PackReply (pack_says arrived.stream lines.now) spare.old out.old result spare.new out.new }
 {
-    let stream = arrived.stream;
-    match stream {
-        Stream::All(n) => pack_lines(&lines[..n], spare, out),
-        Stream::Failed => complain(out, b"pack: standard input cannot be read\n"),
-        Stream::Full => complain(out, b"pack: standard input is longer than 262,144 bytes\n"),
+    match arrived.stream {
+        Ok(n) => pack_lines(&lines[..n], spare, out),
+        Err(StreamError::Failed) => complain(out, b"pack: standard input cannot be read\n"),
+        Err(StreamError::Full) => complain(out, b"pack: standard input is longer than 262,144 bytes\n"),
     }
 }
 
@@ -98,11 +90,10 @@ fn unpack_batch(batch: &[u8], indices: &mut [u32], text: &mut [u8]) -> Said
     requires { (65536 ≤ length indices.old) × (length text.old ≡ 1048576) }
     ensures { UnpackReply (batch_says batch.now) indices.old text.old result indices.new text.new }
 {
-    let r = unpacking::unpack(batch, indices, text);
-    match r {
-        Unpacked::Text(n) => Said::Out(n),
-        Unpacked::Broken(records, ending) => complain_of_chain(text, records, ending),
-        Unpacked::Long => complain(text, b"unpack: the text is longer than 1,048,576 bytes\n"),
+    match unpacking::unpack(batch, indices, text) {
+        Ok(n) => Said::Out(n),
+        Err(UnpackError::Broken { records, ending }) => complain_of_chain(text, records, ending),
+        Err(UnpackError::TooLong) => complain(text, b"unpack: the text is longer than 1,048,576 bytes\n"),
     }
 }
 
@@ -116,10 +107,9 @@ pub(crate) fn unpack_reply(
     requires { UnpackMemory arrived buf.now indices.old text.old }
     ensures { UnpackReply (unpack_says arrived.stream buf.now) indices.old text.old result indices.new text.new }
 {
-    let stream = arrived.stream;
-    match stream {
-        Stream::All(n) => unpack_batch(&buf[..n], indices, text),
-        Stream::Failed => complain(text, b"unpack: standard input cannot be read\n"),
-        Stream::Full => unpack_batch(buf, indices, text),
+    match arrived.stream {
+        Ok(n) => unpack_batch(&buf[..n], indices, text),
+        Err(StreamError::Failed) => complain(text, b"unpack: standard input cannot be read\n"),
+        Err(StreamError::Full) => unpack_batch(buf, indices, text),
     }
 }

@@ -8,12 +8,11 @@ ghost use Rattle.exports.specs.Unpacking.{UnpackedPost};
 use batch::unpacking;
 use console::output;
 
-// How many bytes the text has; or the chain is broken after so many records, with the number of a question; or the text is longer than the slice.
-#[derive(Clone, Copy)]
-pub enum Unpacked {
-    Text(usize),
-    Broken(usize, u8),
-    Long,
+// The chain is broken after so many records, with the number of a question; or the text is longer than the slice.
+#[derive(Clone, Copy, Debug, PartialEq, Eq)]
+pub enum UnpackError {
+    Broken { records: usize, ending: u8 },
+    TooLong,
 }
 
 // Puts the line of a state at `at`, and answers the position past it.
@@ -32,12 +31,9 @@ fn text_len(batch: &[u8], indices: &[u32]) -> usize
     ensures { result ≡ length (text_of (map (state_at batch.now) indices.now)) }
 {
     let mut n: usize = 0;
-    let mut k: usize = 0;
-    while k < indices.len() {
-        let at = indices[k] as usize;
-        let state = unpacking::state_at(batch, at);
+    for &index in indices {
+        let state = unpacking::state_at(batch, index as usize);
         n += 2 * state.len() + 1;
-        k += 1;
     }
     n
 }
@@ -48,28 +44,29 @@ fn put_lines(text: &mut [u8], batch: &[u8], indices: &[u32]) -> usize
     ensures { PutPost text.old 0 (text_of (map (state_at batch.now) indices.now)) result text.new }
 {
     let mut at: usize = 0;
-    let mut k: usize = 0;
-    while k < indices.len() {
-        let index = indices[k] as usize;
-        let state = unpacking::state_at(batch, index);
+    for &index in indices {
+        let state = unpacking::state_at(batch, index as usize);
         at = put_line(text, at, state);
-        k += 1;
     }
     at
 }
 
-// Puts the text of a batch at the front of `text`. `indices` is for the walk, which comes first: where the chain is broken, nothing is put.
-pub(crate) fn unpack(batch: &[u8], indices: &mut [u32], text: &mut [u8]) -> Unpacked
+// Puts the text of a batch at the front of `text`, and answers how long it is. `indices` is for the walk, which comes first: where the chain is broken, nothing
+// is put.
+pub(crate) fn unpack(batch: &[u8], indices: &mut [u32], text: &mut [u8]) -> Result<usize, UnpackError>
     requires { 65536 ≤ length indices.old }
     ensures { UnpackedPost batch.now indices.old text.old result indices.new text.new }
 {
     let w = unpacking::walk(batch, indices);
-    let n = w.records;
+    let records = w.records;
     if w.ending != 0 {
-        return Unpacked::Broken(n, w.ending);
+        return Err(UnpackError::Broken {
+            records,
+            ending: w.ending,
+        });
     }
-    if text.len() < text_len(batch, &indices[..n]) {
-        return Unpacked::Long;
+    if text.len() < text_len(batch, &indices[..records]) {
+        return Err(UnpackError::TooLong);
     }
-    Unpacked::Text(put_lines(text, batch, &indices[..n]))
+    Ok(put_lines(text, batch, &indices[..records]))
 }

@@ -4,121 +4,85 @@
 #![tactic(auto)]
 
 use batch::unpacking;
-use console::input;
-use console::input::{Bytes, Number};
+use console::input::{Pieces, cut, read_bytes, read_cases, read_number};
+use console::memory::filled;
+use console::show::{Hex, bad_case, print_line};
+use console::text::word;
 use exports::packing;
-use exports::packing::Packed;
-use std::io::Stdout;
-
-fn print_states(stdout: Stdout, batch: &[u8], indices: &[u32]) {
-    let mut k: usize = 0;
-    while k < indices.len() {
-        let at = indices[k] as usize;
-        console::text::space(stdout);
-        console::text::print_hex(stdout, unpacking::state_at(batch, at));
-        k += 1;
-    }
-}
+use exports::packing::PackError;
+use std::io;
+use std::io::Print;
 
 // How many records, the number that ends the chain, and the states.
-fn print_walk(stdout: Stdout, batch: &[u8]) {
-    let mut indices = exports::memory::index_cells();
+fn print_walk(rt: &impl Print, batch: &[u8]) -> io::Result<()> {
+    let mut indices: [u32; 65536] = filled(0);
     let w = unpacking::walk(batch, &mut indices);
     let n = w.records;
-    console::text::print_number(stdout, n as u64);
-    console::text::space(stdout);
-    console::text::print_number(stdout, w.ending as u64);
-    print_states(stdout, batch, &indices[..n]);
-    console::text::end_line(stdout);
+    print!(rt; "{n} {}", w.ending)?;
+    for &index in &indices[..n] {
+        print!(rt; " {}", Hex(unpacking::state_at(batch, index as usize)))?;
+    }
+    println!(rt; "")
 }
 
-fn walk_case(stdout: Stdout, word: &[u8], bytes: &mut [u8]) {
-    let r = input::read_bytes(word, bytes);
-    let Bytes::Count(n) = r else {
-        console::text::bad_case(stdout);
-        return;
+fn walk_case(rt: &impl Print, word: &[u8], bytes: &mut [u8]) -> io::Result<()> {
+    let Some(n) = read_bytes(word, bytes) else {
+        return bad_case(rt);
     };
-    print_walk(stdout, &bytes[..n]);
+    print_walk(rt, &bytes[..n])
 }
 
-fn print_batch(stdout: Stdout, batch: &[u8]) {
-    console::text::print_hex(stdout, batch);
-    console::text::end_line(stdout);
-    print_walk(stdout, batch);
+fn print_batch(rt: &impl Print, batch: &[u8]) -> io::Result<()> {
+    println!(rt; "{}", Hex(batch))?;
+    print_walk(rt, batch)
 }
 
-fn print_line(stdout: Stdout, what: &[u8], line: usize) {
-    console::output::print(stdout, what);
-    console::text::print_number(stdout, line as u64);
-    console::text::end_line(stdout);
-}
-
-fn pack_case(stdout: Stdout, lines: &[u8], out: &mut [u8]) {
-    let mut spare = console::memory::large_buffer();
-    if spare.len() < lines.len() {
-        console::text::bad_case(stdout);
-        return;
+fn pack_case(rt: &impl Print, lines: &[u8], out: &mut [u8]) -> io::Result<()> {
+    let mut spare: [u8; 65536] = filled(0);
+    if spare.len() < lines.len() || out.len() < 4 {
+        return bad_case(rt);
     }
-    if out.len() < 4 {
-        console::text::bad_case(stdout);
-        return;
-    }
-    let r = packing::pack(lines, &mut spare, out);
-    match r {
-        Packed::Batch(n) => print_batch(stdout, &out[..n]),
-        Packed::BadLine(line) => print_line(stdout, b"bad line ", line),
-        Packed::TooLong(line) => print_line(stdout, b"too long at line ", line),
+    match packing::pack(lines, &mut spare, out) {
+        Ok(n) => print_batch(rt, &out[..n]),
+        Err(PackError::BadLine(line)) => println!(rt; "bad line {line}"),
+        Err(PackError::TooLong(line)) => println!(rt; "too long at line {line}"),
     }
 }
 
 // A case, by the number that it starts with.
-fn numbered(stdout: Stdout, room: u64, lines: &[u8], out: &mut [u8]) {
+fn numbered(rt: &impl Print, room: u64, lines: &[u8], out: &mut [u8]) -> io::Result<()> {
     if room == 0 {
-        let end = input::find(lines, 0, b'\n');
-        walk_case(stdout, &lines[..end], out);
-        return;
+        return walk_case(rt, cut(lines, b'\n').0, out);
     }
-    if 4096 < room {
-        console::text::bad_case(stdout);
-        return;
+    if 4096 < room || out.len() < room as usize {
+        return bad_case(rt);
     }
-    let size = room as usize;
-    if out.len() < size {
-        console::text::bad_case(stdout);
-        return;
-    }
-    pack_case(stdout, lines, &mut out[..size]);
+    pack_case(rt, lines, &mut out[..room as usize])
 }
 
-fn case(stdout: Stdout, lines: &[u8]) {
-    let end = input::find(lines, 0, b'\n');
-    console::output::print(stdout, &lines[..end]);
-    console::text::end_line(stdout);
-    let r = input::read_number(console::text::word(&lines[..end], 0));
-    let Number::Value(room) = r else {
-        console::text::bad_case(stdout);
-        return;
+fn case(rt: &impl Print, lines: &[u8]) -> io::Result<()> {
+    let (first, others) = cut(lines, b'\n');
+    print_line(rt, first)?;
+    let Some(room) = read_number(word(first, 0)) else {
+        return bad_case(rt);
     };
-    let mut out = console::memory::buffer();
-    if end < lines.len() {
-        let start = end + 1;
-        numbered(stdout, room, &lines[start..], &mut out);
-    } else {
-        console::text::bad_case(stdout);
+    if lines.len() <= first.len() {
+        return bad_case(rt);
     }
+    let mut out: [u8; 4096] = filled(0);
+    numbered(rt, room, others, &mut out)
 }
 
-fn all_cases(stdout: Stdout, text: &[u8]) {
-    let mut at: usize = 0;
-    while at < text.len() {
-        let end = input::find(text, at, b'|');
-        case(stdout, &text[at..end]);
-        at = end + 1;
+fn replay(rt: &impl Print, text: &[u8]) -> io::Result<()> {
+    for lines in Pieces::new(text, b'|') {
+        case(rt, lines)?;
     }
+    Ok(())
 }
 
+// A write that fails leaves the output short, which a comparison shows. A `main` that answers it would rest on one more function of C.
 fn main(rt: HostRuntime) {
-    let mut buf = console::memory::large_buffer();
-    let n = input::read_cases(rt.stdin(), rt.stderr(), b"exports_cases", &mut buf);
-    all_cases(rt.stdout(), &buf[..n]);
+    let mut buf: [u8; 65536] = filled(0);
+    let n = read_cases(&mut rt.stdin(), &rt.stderr(), "exports_cases", &mut buf);
+    let _ = replay(&rt, &buf[..n]);
 }

@@ -8,10 +8,15 @@ ghost use Rattle.lists.specs.Values.{valid};
 ghost use Rattle.lists.specs.Registers.{LowerPre};
 ghost use Rattle.lists_cases.specs.Tests.{Mergeable, Insertable};
 
-use console::text;
+use console::input::{Pieces, read_bytes, read_cases};
+use console::memory::filled;
+use console::output::all_are;
+use console::show::{Hex, List, bad_case, print_line};
+use console::text::{precision, read_list, read_value, word};
 use lists::merging::Merged;
 use lists::values::Sparse;
-use std::io::Stdout;
+use std::io;
+use std::io::Print;
 
 mod tests;
 
@@ -21,156 +26,130 @@ const FILL: u8 = 165;
 // ---- values
 
 // The register and the rank of a value at each lower precision, p-1 first.
-fn print_lower(stdout: Stdout, p: u32, index: u32, rank: u8)
+fn print_lower(rt: &impl Print, p: u32, index: u32, rank: u8) -> io::Result<()>
     requires { (p ≤ 24) × (rank ≤ 84) }
 {
-    let mut d: u32 = 1;
-    while d + 4 <= p {
-        text::space(stdout);
-        text::print_value(stdout, index >> d);
-        console::output::print(stdout, b":");
+    for d in 1..p.saturating_sub(3) {
         let r = lists::values::downgrade_rho_w(index, rank, d);
-        text::print_number(stdout, r as u64);
-        d += 1;
+        print!(rt; " {}:{r}", index >> d)?;
     }
+    Ok(())
 }
 
-fn print_facts(stdout: Stdout, enc: Sparse, v: u32)
+fn print_facts(rt: &impl Print, enc: Sparse, v: u32) -> io::Result<()>
     requires { valid enc.normal_precision enc.sparse_precision v ≡ true }
 {
     let index = enc.decode_normal_index(v);
     let rank = enc.decode_normal_rho_w(v);
-    text::space(stdout);
-    text::print_value(stdout, enc.decode_sparse_index(v));
-    text::space(stdout);
-    text::print_value(stdout, index);
-    text::space(stdout);
-    text::print_number(stdout, rank as u64);
-    print_lower(stdout, enc.normal_precision, index, rank);
+    print!(rt;
+        " {} {index} {rank}",
+        enc.decode_sparse_index(v)
+    )?;
+    print_lower(rt, enc.normal_precision, index, rank)
 }
 
-fn value_case(stdout: Stdout, enc: Sparse, v: u32)
+fn value_case(rt: &impl Print, enc: Sparse, v: u32) -> io::Result<()>
 {
-    text::print_bool(stdout, enc.is_rho_encoded(v));
-    text::space(stdout);
+    let marked = u8::from(enc.is_rho_encoded(v));
     let ok = enc.is_valid(v);
-    text::print_bool(stdout, ok);
+    print!(rt; "{marked} {}", u8::from(ok))?;
     if ok {
-        print_facts(stdout, enc, v);
+        print_facts(rt, enc, v)?;
     }
-    text::end_line(stdout);
+    println!(rt; "")
 }
 
-fn value_line(stdout: Stdout, enc: Sparse, line: &[u8])
+fn value_line(rt: &impl Print, enc: Sparse, line: &[u8]) -> io::Result<()>
 {
-    match text::read_value(text::word(line, 3)) {
-        text::Value::Is(v) => value_case(stdout, enc, v),
-        text::Value::Other => text::bad_case(stdout),
+    match read_value(word(line, 3)) {
+        Some(v) => value_case(rt, enc, v),
+        None => bad_case(rt),
     }
 }
 
 // ---- lists
 
-fn decode_case(stdout: Stdout, enc: Sparse, bytes: &[u8])
+fn decode_case(rt: &impl Print, enc: Sparse, bytes: &[u8]) -> io::Result<()>
 {
     let mut values = [0u32; 512];
     if 512 < bytes.len() {
-        text::bad_case(stdout);
-        return;
+        return bad_case(rt);
     }
     match enc.decode_validated_into(bytes, &mut values) {
-        Ok(n) => text::print_list(stdout, &values[..n]),
-        Err(e) => text::print_refused(stdout, e as u8),
+        Ok(n) => println!(rt; "{}", List(&values[..n])),
+        Err(e) => println!(rt; "refused {}", e as u8),
     }
-    text::end_line(stdout);
 }
 
-fn decode_line(stdout: Stdout, enc: Sparse, line: &[u8])
+fn decode_line(rt: &impl Print, enc: Sparse, line: &[u8]) -> io::Result<()>
 {
-    let mut bytes = console::memory::buffer();
-    let r = console::input::read_bytes(text::word(line, 3), &mut bytes);
-    let console::input::Bytes::Count(n) = r else {
-        text::bad_case(stdout);
-        return;
+    let mut bytes: [u8; 4096] = filled(0);
+    let Some(n) = read_bytes(word(line, 3), &mut bytes) else {
+        return bad_case(rt);
     };
-    decode_case(stdout, enc, &bytes[..n]);
+    decode_case(rt, enc, &bytes[..n])
 }
 
-fn gap_line(stdout: Stdout, line: &[u8]) {
-    match text::read_value(text::word(line, 1)) {
-        text::Value::Is(v) => {
-            text::print_number(stdout, lists::merging::gap_len(v) as u64);
-            text::end_line(stdout);
-        }
-        text::Value::Other => text::bad_case(stdout),
+fn gap_line(rt: &impl Print, line: &[u8]) -> io::Result<()> {
+    match read_value(word(line, 1)) {
+        Some(v) => println!(rt; "{}", lists::merging::gap_len(v)),
+        None => bad_case(rt),
     }
 }
 
 // The first n bytes, and whether those behind them are as they were.
-fn print_written(stdout: Stdout, n: usize, out: &[u8])
+fn print_written(rt: &impl Print, n: usize, out: &[u8]) -> io::Result<()>
     requires { n ≤ length out.now }
 {
-    text::print_hex(stdout, &out[..n]);
-    if !console::output::all_are(&out[n..], FILL) {
-        console::output::print(stdout, b" touched");
+    print!(rt; "{}", Hex(&out[..n]))?;
+    if !all_are(&out[n..], FILL) {
+        print!(rt; " touched")?;
     }
-    text::end_line(stdout);
+    println!(rt; "")
 }
 
-fn encode_case(stdout: Stdout, list: &[u32]) {
+fn encode_case(rt: &impl Print, list: &[u32]) -> io::Result<()> {
     if !lists::checking::is_ascending(list) {
-        text::bad_case(stdout);
-        return;
+        return bad_case(rt);
     }
     let n = lists::merging::written_len(list);
     if 4096 < n {
-        text::bad_case(stdout);
-        return;
+        return bad_case(rt);
     }
-    text::print_number(stdout, n as u64);
-    text::space(stdout);
+    print!(rt; "{n} ")?;
     let mut out = [FILL; 4096];
     let end = lists::merging::encode_sparse(list, &mut out);
-    print_written(stdout, end, &out);
+    print_written(rt, end, &out)
 }
 
-fn encode_line(stdout: Stdout, line: &[u8]) {
+fn encode_line(rt: &impl Print, line: &[u8]) -> io::Result<()> {
     let mut list = [0u32; 512];
-    let r = text::read_list(text::word(line, 1), &mut list);
-    let text::Listed::Count(n) = r else {
-        text::bad_case(stdout);
-        return;
+    let Some(n) = read_list(word(line, 1), &mut list) else {
+        return bad_case(rt);
     };
-    encode_case(stdout, &list[..n]);
+    encode_case(rt, &list[..n])
 }
 
-fn sort_case(stdout: Stdout, list: &mut [u32]) {
+fn sort_case(rt: &impl Print, list: &mut [u32]) -> io::Result<()> {
     let mut scratch = [0u32; 512];
     if 512 < list.len() {
-        text::bad_case(stdout);
-        return;
+        return bad_case(rt);
     }
     lists::sorting::sort_runs(list, &mut scratch);
-    text::print_list(stdout, &list[..]);
-    text::end_line(stdout);
+    println!(rt; "{}", List(list))
 }
 
-fn sort_line(stdout: Stdout, line: &[u8]) {
+fn sort_line(rt: &impl Print, line: &[u8]) -> io::Result<()> {
     let mut list = [0u32; 512];
-    let r = text::read_list(text::word(line, 1), &mut list);
-    let text::Listed::Count(n) = r else {
-        text::bad_case(stdout);
-        return;
+    let Some(n) = read_list(word(line, 1), &mut list) else {
+        return bad_case(rt);
     };
-    sort_case(stdout, &mut list[..n]);
+    sort_case(rt, &mut list[..n])
 }
 
 // A list, and how many bytes it takes.
-fn print_merged(stdout: Stdout, list: &[u32], bytes: usize) {
-    text::print_list(stdout, list);
-    text::space(stdout);
-    text::print_number(stdout, bytes as u64);
-    text::end_line(stdout);
+fn print_merged(rt: &impl Print, list: &[u32], bytes: usize) -> io::Result<()> {
+    println!(rt; "{} {bytes}", List(list))
 }
 
 // Whether a list is one that can be merged.
@@ -186,36 +165,30 @@ fn merges(enc: Sparse, l: &[u32]) -> bool
     enc.all_valid(l)
 }
 
-fn merge_case(stdout: Stdout, enc: Sparse, a: &[u32], b: &[u32])
+fn merge_case(rt: &impl Print, enc: Sparse, a: &[u32], b: &[u32]) -> io::Result<()>
 {
     if !merges(enc, a) {
-        text::bad_case(stdout);
-        return;
+        return bad_case(rt);
     }
     if !merges(enc, b) {
-        text::bad_case(stdout);
-        return;
+        return bad_case(rt);
     }
     let mut out = [0u32; 1024];
     let r = enc.merge_dedupe_into(a, b, &mut out);
-    print_merged(stdout, &out[..r.len], r.bytes);
+    print_merged(rt, &out[..r.len], r.bytes)
 }
 
-fn merge_line(stdout: Stdout, enc: Sparse, line: &[u8])
+fn merge_line(rt: &impl Print, enc: Sparse, line: &[u8]) -> io::Result<()>
 {
     let mut a = [0u32; 512];
-    let r = text::read_list(text::word(line, 3), &mut a);
-    let text::Listed::Count(n) = r else {
-        text::bad_case(stdout);
-        return;
+    let Some(n) = read_list(word(line, 3), &mut a) else {
+        return bad_case(rt);
     };
     let mut b = [0u32; 512];
-    let q = text::read_list(text::word(line, 4), &mut b);
-    let text::Listed::Count(m) = q else {
-        text::bad_case(stdout);
-        return;
+    let Some(m) = read_list(word(line, 4), &mut b) else {
+        return bad_case(rt);
     };
-    merge_case(stdout, enc, &a[..n], &b[..m]);
+    merge_case(rt, enc, &a[..n], &b[..m])
 }
 
 // Whether a list of this many bytes is one that a merge can have left.
@@ -239,145 +212,114 @@ fn inserts(enc: Sparse, l: &[u32], bytes: usize) -> bool
 
 // Values go into the first n of `union`.
 fn insert_case(
-    stdout: Stdout,
+    rt: &impl Print,
     enc: Sparse,
     union: &mut [u32],
     n: usize,
     incoming: &[u32],
     bytes: usize,
-)
+) -> io::Result<()>
     requires { n ≤ length union.old }
 {
     if !inserts(enc, &union[..n], bytes) {
-        text::bad_case(stdout);
-        return;
+        return bad_case(rt);
     }
     if 512 < incoming.len() {
-        text::bad_case(stdout);
-        return;
+        return bad_case(rt);
     }
     if union.len() - n < incoming.len() {
-        text::bad_case(stdout);
-        return;
+        return bad_case(rt);
     }
     let r = enc.insert_dedupe(union, Merged { len: n, bytes }, incoming);
-    print_merged(stdout, &union[..r.len], r.bytes);
+    print_merged(rt, &union[..r.len], r.bytes)
 }
 
-fn insert_line(stdout: Stdout, enc: Sparse, line: &[u8])
+fn insert_line(rt: &impl Print, enc: Sparse, line: &[u8]) -> io::Result<()>
 {
     let mut union = [0u32; 1024];
-    let r = text::read_list(text::word(line, 4), &mut union);
-    let text::Listed::Count(n) = r else {
-        text::bad_case(stdout);
-        return;
+    let Some(n) = read_list(word(line, 4), &mut union) else {
+        return bad_case(rt);
     };
     let mut incoming = [0u32; 512];
-    let q = text::read_list(text::word(line, 5), &mut incoming);
-    let text::Listed::Count(m) = q else {
-        text::bad_case(stdout);
-        return;
+    let Some(m) = read_list(word(line, 5), &mut incoming) else {
+        return bad_case(rt);
     };
-    match text::read_value(text::word(line, 3)) {
-        text::Value::Is(bytes) => insert_case(
-            stdout,
-            enc,
-            &mut union,
-            n,
-            &incoming[..m],
-            bytes as usize,
-        ),
-        text::Value::Other => text::bad_case(stdout),
+    match read_value(word(line, 3)) {
+        Some(bytes) => insert_case(rt, enc, &mut union, n, &incoming[..m], bytes as usize),
+        None => bad_case(rt),
     }
 }
 
-fn count_case(stdout: Stdout, enc: Sparse, list: &[u32])
+fn count_case(rt: &impl Print, enc: Sparse, list: &[u32]) -> io::Result<()>
 {
     if !merges(enc, list) {
-        text::bad_case(stdout);
-        return;
+        return bad_case(rt);
     }
     if !enc.has_distinct_slots(list) {
-        text::bad_case(stdout);
-        return;
+        return bad_case(rt);
     }
-    text::print_number(stdout, enc.distinct_indices(list) as u64);
-    text::end_line(stdout);
+    println!(rt; "{}", enc.distinct_indices(list))
 }
 
-fn count_line(stdout: Stdout, enc: Sparse, line: &[u8])
+fn count_line(rt: &impl Print, enc: Sparse, line: &[u8]) -> io::Result<()>
 {
     let mut list = [0u32; 512];
-    let r = text::read_list(text::word(line, 3), &mut list);
-    let text::Listed::Count(n) = r else {
-        text::bad_case(stdout);
-        return;
+    let Some(n) = read_list(word(line, 3), &mut list) else {
+        return bad_case(rt);
     };
-    count_case(stdout, enc, &list[..n]);
+    count_case(rt, enc, &list[..n])
 }
 
 // ---- registers
 
 // All bytes, how many of the registers of precision p are not zero, and the largest.
-fn print_registers(stdout: Stdout, p: u32, registers: &[u8]) {
+fn print_registers(rt: &impl Print, p: u32, registers: &[u8]) -> io::Result<()> {
     if !tests::holds(p, registers) {
-        text::bad_case(stdout);
-        return;
+        return bad_case(rt);
     }
-    text::print_hex(stdout, registers);
-    text::space(stdout);
-    text::print_number(
-        stdout,
-        lists::registers::count_not_zero(registers, p) as u64,
-    );
-    text::space(stdout);
-    text::print_number(
-        stdout,
-        lists::registers::largest_register(registers, p) as u64,
-    );
-    text::end_line(stdout);
+    let count = lists::registers::count_not_zero(registers, p);
+    let top = lists::registers::largest_register(registers, p);
+    println!(rt; "{} {count} {top}", Hex(registers))
 }
 
 // The listed values raise registers of precision q.
-fn set_case(stdout: Stdout, enc: Sparse, q: u32, registers: &mut [u8], list: &[u32])
+fn set_case(
+    rt: &impl Print,
+    enc: Sparse,
+    q: u32,
+    registers: &mut [u8],
+    list: &[u32],
+) -> io::Result<()>
 {
     let p = enc.normal_precision;
     if p < q {
-        text::bad_case(stdout);
-        return;
+        return bad_case(rt);
     }
     if q < 4 {
-        text::bad_case(stdout);
-        return;
+        return bad_case(rt);
     }
     if !tests::holds(q, &registers[..]) {
-        text::bad_case(stdout);
-        return;
+        return bad_case(rt);
     }
     if !enc.all_valid(list) {
-        text::bad_case(stdout);
-        return;
+        return bad_case(rt);
     }
     lists::registers::set_registers(registers, enc, p - q, list);
-    print_registers(stdout, q, &registers[..]);
+    print_registers(rt, q, registers)
 }
 
-fn set_line(stdout: Stdout, enc: Sparse, line: &[u8])
+fn set_line(rt: &impl Print, enc: Sparse, line: &[u8]) -> io::Result<()>
 {
-    let mut registers = console::memory::buffer();
-    let r = console::input::read_bytes(text::word(line, 4), &mut registers);
-    let console::input::Bytes::Count(n) = r else {
-        text::bad_case(stdout);
-        return;
+    let mut registers: [u8; 4096] = filled(0);
+    let Some(n) = read_bytes(word(line, 4), &mut registers) else {
+        return bad_case(rt);
     };
     let mut list = [0u32; 512];
-    let q = text::read_list(text::word(line, 5), &mut list);
-    let text::Listed::Count(m) = q else {
-        text::bad_case(stdout);
-        return;
+    let Some(m) = read_list(word(line, 5), &mut list) else {
+        return bad_case(rt);
     };
-    let to = text::precision(text::word(line, 3));
-    set_case(stdout, enc, to, &mut registers[..n], &list[..m]);
+    let to = precision(word(line, 3));
+    set_case(rt, enc, to, &mut registers[..n], &list[..m])
 }
 
 // Whether registers of precision p can be lowered by d bits.
@@ -398,130 +340,111 @@ fn lowers(p: u32, d: u32, registers: &[u8]) -> bool
 }
 
 // The source's registers of precision p go into the target's of precision q.
-fn max_case(stdout: Stdout, p: u32, q: u32, source: &[u8], target: &mut [u8]) {
+fn max_case(rt: &impl Print, p: u32, q: u32, source: &[u8], target: &mut [u8]) -> io::Result<()> {
     if p < q {
-        text::bad_case(stdout);
-        return;
+        return bad_case(rt);
     }
     if !tests::holds(q, &target[..]) {
-        text::bad_case(stdout);
-        return;
+        return bad_case(rt);
     }
     if !lowers(p, p - q, source) {
-        text::bad_case(stdout);
-        return;
+        return bad_case(rt);
     }
     if p == q {
         lists::registers::max_into(target, source, q);
-        print_registers(stdout, q, &target[..]);
-        return;
+        return print_registers(rt, q, target);
     }
     lists::registers::downgrade_registers_max_into(source, p - q, target, q);
-    print_registers(stdout, q, &target[..]);
+    print_registers(rt, q, target)
 }
 
-fn max_line(stdout: Stdout, line: &[u8]) {
-    let mut source = console::memory::buffer();
-    let r = console::input::read_bytes(text::word(line, 3), &mut source);
-    let console::input::Bytes::Count(n) = r else {
-        text::bad_case(stdout);
-        return;
+fn max_line(rt: &impl Print, line: &[u8]) -> io::Result<()> {
+    let mut source: [u8; 4096] = filled(0);
+    let Some(n) = read_bytes(word(line, 3), &mut source) else {
+        return bad_case(rt);
     };
-    let mut target = console::memory::buffer();
-    let q = console::input::read_bytes(text::word(line, 4), &mut target);
-    let console::input::Bytes::Count(m) = q else {
-        text::bad_case(stdout);
-        return;
+    let mut target: [u8; 4096] = filled(0);
+    let Some(m) = read_bytes(word(line, 4), &mut target) else {
+        return bad_case(rt);
     };
-    let from = text::precision(text::word(line, 1));
-    let to = text::precision(text::word(line, 2));
-    max_case(stdout, from, to, &source[..n], &mut target[..m]);
+    let from = precision(word(line, 1));
+    let to = precision(word(line, 2));
+    max_case(rt, from, to, &source[..n], &mut target[..m])
 }
 
 // Registers of precision p become those of precision q, where they lie.
-fn lower_case(stdout: Stdout, p: u32, q: u32, registers: &mut [u8]) {
+fn lower_case(rt: &impl Print, p: u32, q: u32, registers: &mut [u8]) -> io::Result<()> {
     if p < q {
-        text::bad_case(stdout);
-        return;
+        return bad_case(rt);
     }
     if !lowers(p, p - q, &registers[..]) {
-        text::bad_case(stdout);
-        return;
+        return bad_case(rt);
     }
     lists::registers::lower_registers(registers, p, p - q);
-    print_registers(stdout, q, &registers[..]);
+    print_registers(rt, q, registers)
 }
 
-fn lower_line(stdout: Stdout, line: &[u8]) {
-    let mut registers = console::memory::buffer();
-    let r = console::input::read_bytes(text::word(line, 3), &mut registers);
-    let console::input::Bytes::Count(n) = r else {
-        text::bad_case(stdout);
-        return;
+fn lower_line(rt: &impl Print, line: &[u8]) -> io::Result<()> {
+    let mut registers: [u8; 4096] = filled(0);
+    let Some(n) = read_bytes(word(line, 3), &mut registers) else {
+        return bad_case(rt);
     };
-    let from = text::precision(text::word(line, 1));
-    let to = text::precision(text::word(line, 2));
-    lower_case(stdout, from, to, &mut registers[..n]);
+    let from = precision(word(line, 1));
+    let to = precision(word(line, 2));
+    lower_case(rt, from, to, &mut registers[..n])
 }
 
 // ---- lines
 
 // A case of a pair of precisions.
-fn pair_case(stdout: Stdout, kind: u8, enc: Sparse, line: &[u8])
+fn pair_case(rt: &impl Print, kind: u8, enc: Sparse, line: &[u8]) -> io::Result<()>
 {
     match kind {
-        b'v' => value_line(stdout, enc, line),
-        b'd' => decode_line(stdout, enc, line),
-        b'm' => merge_line(stdout, enc, line),
-        b'i' => insert_line(stdout, enc, line),
-        b'n' => count_line(stdout, enc, line),
-        _ => set_line(stdout, enc, line),
+        b'v' => value_line(rt, enc, line),
+        b'd' => decode_line(rt, enc, line),
+        b'm' => merge_line(rt, enc, line),
+        b'i' => insert_line(rt, enc, line),
+        b'n' => count_line(rt, enc, line),
+        _ => set_line(rt, enc, line),
     }
 }
 
-fn pair_line(stdout: Stdout, kind: u8, line: &[u8]) {
-    let p = text::precision(text::word(line, 1));
-    let s = text::precision(text::word(line, 2));
+fn pair_line(rt: &impl Print, kind: u8, line: &[u8]) -> io::Result<()> {
+    let p = precision(word(line, 1));
+    let s = precision(word(line, 2));
     if !tests::fits(p, s) {
-        text::bad_case(stdout);
-        return;
+        return bad_case(rt);
     }
-    pair_case(stdout, kind, Sparse::new(p, s), line);
+    pair_case(rt, kind, Sparse::new(p, s), line)
 }
 
 // A line: a letter, and behind a blank its operands.
-fn case(stdout: Stdout, line: &[u8]) {
-    if line.len() == 0 {
-        text::bad_case(stdout);
-        return;
-    }
-    let kind = line[0];
+fn case(rt: &impl Print, line: &[u8]) -> io::Result<()> {
+    let Some(&kind) = line.first() else {
+        return bad_case(rt);
+    };
     match kind {
-        b'#' => {
-            console::output::print(stdout, line);
-            text::end_line(stdout);
-        }
-        b'v' | b'd' | b'm' | b'i' | b'n' | b'r' => pair_line(stdout, kind, line),
-        b'g' => gap_line(stdout, line),
-        b'e' => encode_line(stdout, line),
-        b's' => sort_line(stdout, line),
-        b'x' => max_line(stdout, line),
-        b'l' => lower_line(stdout, line),
-        _ => text::bad_case(stdout),
+        b'#' => print_line(rt, line),
+        b'v' | b'd' | b'm' | b'i' | b'n' | b'r' => pair_line(rt, kind, line),
+        b'g' => gap_line(rt, line),
+        b'e' => encode_line(rt, line),
+        b's' => sort_line(rt, line),
+        b'x' => max_line(rt, line),
+        b'l' => lower_line(rt, line),
+        _ => bad_case(rt),
     }
 }
 
-fn all_cases(stdout: Stdout, text: &[u8]) {
-    let mut at: usize = 0;
-    while at < text.len() {
-        let end = console::input::find(text, at, b'\n');
-        case(stdout, &text[at..end]);
-        at = end + 1;
+fn replay(rt: &impl Print, text: &[u8]) -> io::Result<()> {
+    for line in Pieces::new(text, b'\n') {
+        case(rt, line)?;
     }
+    Ok(())
 }
 
+// A write that fails leaves the output short, which a comparison shows. A `main` that answers it would rest on one more function of C.
 fn main(rt: HostRuntime) {
-    let mut buf = console::memory::large_buffer();
-    let n = console::input::read_cases(rt.stdin(), rt.stderr(), b"lists_cases", &mut buf);
-    all_cases(rt.stdout(), &buf[..n]);
+    let mut buf: [u8; 65536] = filled(0);
+    let n = read_cases(&mut rt.stdin(), &rt.stderr(), "lists_cases", &mut buf);
+    let _ = replay(&rt, &buf[..n]);
 }

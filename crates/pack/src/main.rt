@@ -2,5 +2,5 @@
 #![tactic(auto)]
 
 fn main(rt: HostRuntime) {
-    exports::programs::pack(rt.stdin(), rt.stdout(), rt.stderr());
+    exports::programs::pack(&mut rt.stdin(), &rt.stdout(), &rt.stderr());
 }

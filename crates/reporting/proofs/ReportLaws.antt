@@ -2,17 +2,17 @@
 use mathlib.Core.Path.{◌≡◌, refl, sym, ap, ◌∙◌, subst}
 use mathlib.Core.List.{List}
 use mathlib.Core.Bool.{false}
-use mathlib.Core.Option.{Option, none, some}
+use Rattle.std.specs.Prelude.{Option, Some, None, Ok, Err}
 use Prim.Native.Nat.{ℕ, ◌<◌, ◌≤◌}
 use native.Mathlib.Omega.{arith}
 use lib.ListN.{length, take, get_or}
-use lib.Seq.{sets, length-sets}
+use lib.Seq.{length-sets}
 use borrow.Author.Tests.{lt-leb}
 use Rattle.std.specs.Counts.{IsPrefixLen}
-use Rattle.console.specs.declared.input.Stream.{Stream}
-use Rattle.console.specs.declared.input.Stream.TheVariants.{All, Failed, Full}
+use Rattle.console.specs.declared.input.StreamError.TheVariants.{Failed, Full}
+use Rattle.console.specs.Input.{Stream}
 use Rattle.console.specs.declared.output.Said.{Said}
-use Rattle.console.specs.declared.output.Said.TheVariants.{Out, Err}
+use Rattle.console.specs.declared.output.Said.TheVariants.{Out, Err as ErrSaid}
 use Rattle.wire.specs.Varints.{PutPost}
 use Rattle.console.specs.Output.{out, SaidPost}
 use Rattle.console.proofs.OutputLaws.{said_out, said_err}
@@ -22,8 +22,6 @@ use Rattle.batch.proofs.ChainLaws.{long_enough}
 use Rattle.batch.proofs.ClosingLaws.{few_records, written_inside}
 use Rattle.batch.proofs.CountLaws.{reported_few}
 use Rattle.batch.proofs.NoBatchLaws.{no_batch_report}
-use Rattle.reporting.specs.declared.Heard.{Heard}
-use Rattle.reporting.specs.declared.Heard.TheVariants.{Batch, Nothing}
 use Rattle.reporting.specs.Text.{report_text}
 use Rattle.reporting.specs.Report.{ReportOf, RolledUp, input_of, unreadable, too_long_message, Hears, HeardPost, HeardIn, saying_for, Response, Responds}
 use Rattle.reporting.proofs.TextLaws.{text_24}
@@ -50,65 +48,65 @@ long_24 batch long = sym (long_enough batch (omega arith)) ∙ lt-leb (length ba
 -- ---- what is heard
 
 module _ {stream : Stream} (buf : List ℕ) {answers output : List ℕ} (long : 65536 < length buf) where
-  heard : {h : Heard} {input : Option (List ℕ)} → input_of stream buf ≡ input → Hears input h answers output → HeardPost stream buf h answers output
+  heard : {h : Option Report} {input : Option (List ℕ)} → input_of stream buf ≡ input → Hears input h answers output → HeardPost stream buf h answers output
   heard {h} e p =
-      record { hears = subst (λ (x : Option (List ℕ)). Hears x h answers output) (sym e) p; too_long = λ (full : stream ≡ Full). long_24 buf long }
+      record { hears = subst (λ (x : Option (List ℕ)). Hears x h answers output) (sym e) p; too_long = λ (full : stream ≡ Err Full). long_24 buf long }
 
-  pub heard_all : {n : ℕ} {r : Report} → stream ≡ All n → RolledUp (take n buf) r answers output → HeardPost stream buf (Batch r) answers output
+  pub heard_all : {n : ℕ} {r : Report} → stream ≡ Ok n → RolledUp (take n buf) r answers output → HeardPost stream buf (Some r) answers output
   heard_all e p = heard (ap (λ (s : Stream). input_of s buf) e) p
 
-  pub heard_full : {r : Report} → stream ≡ Full → RolledUp buf r answers output → HeardPost stream buf (Batch r) answers output
+  pub heard_full : {r : Report} → stream ≡ Err Full → RolledUp buf r answers output → HeardPost stream buf (Some r) answers output
   heard_full e p = heard (ap (λ (s : Stream). input_of s buf) e) p
 
-  pub heard_nothing : stream ≡ Failed → HeardPost stream buf Nothing answers output
+  pub heard_nothing : stream ≡ Err Failed → HeardPost stream buf None answers output
   heard_nothing e = heard (ap (λ (s : Stream). input_of s buf) e) tt
 
 -- ---- what is said
 
 -- A report that was put is said on standard output, and the message on standard error.
-module _ {h : Heard} (answers output before : List ℕ) {after : List ℕ} where
-  pub said_batch : {r : Report} {n : ℕ} → h ≡ Batch r → PutPost before 0 (report_text r answers output) n after × IsPrefixLen n after
+module _ {h : Option Report} (answers output before : List ℕ) {after : List ℕ} where
+  pub said_batch : {r : Report} {n : ℕ} → h ≡ Some r → PutPost before 0 (report_text r answers output) n after × IsPrefixLen n after
       → SaidPost (saying_for h answers output) before (Out n) after
   said_batch {r} {n} e p =
       let text = report_text r answers output in
-      subst (λ (x : Heard). SaidPost (saying_for x answers output) before (Out n) after) (sym e)
+      subst (λ (x : Option Report). SaidPost (saying_for x answers output) before (Out n) after) (sym e)
       (said_out before text (omega (arith, p.1.0, p.0.next, ap (λ (l : List ℕ). length l) p.0.output ∙ length-sets before 0 text)) (omega (arith, p.0.next)) p.0.output)
 
-  pub said_nothing : h ≡ Nothing → 36 ≤ length before → after ≡ sets before 0 unreadable
-      → SaidPost (saying_for h answers output) before (Err 36) after
-  said_nothing e room put =
-      subst (λ (x : Heard). SaidPost (saying_for x answers output) before (Err 36) after) (sym e)
-      (said_err before unreadable room refl put)
+  pub said_nothing : {n : ℕ} → h ≡ None → 36 ≤ length before → PutPost before 0 unreadable n after
+      → SaidPost (saying_for h answers output) before (ErrSaid n) after
+  said_nothing {n} e room put =
+      subst (λ (x : Option Report). SaidPost (saying_for x answers output) before (ErrSaid n) after) (sym e)
+      (said_err before unreadable room (omega (arith, put.next)) put.output)
 
 module _ (answers output : List ℕ) where
-  heard_inside : (input : Option (List ℕ)) (h : Heard) → Hears input h answers output → HeardIn h answers output
-  heard_inside (some batch) (Batch r) p = p.inside
-  heard_inside (some batch) Nothing p = tt
-  heard_inside none (Batch r) p = absurd p
-  heard_inside none Nothing p = tt
+  heard_inside : (input : Option (List ℕ)) (h : Option Report) → Hears input h answers output → HeardIn h answers output
+  heard_inside (Some batch) (Some r) p = p.inside
+  heard_inside (Some batch) None p = tt
+  heard_inside None (Some r) p = absurd p
+  heard_inside None None p = tt
 
   -- What is said of what was heard is what is to be said of the input ..
-  responded : (input : Option (List ℕ)) (h : Heard) → Hears input h answers output → Response input (saying_for h answers output)
-  responded (some batch) (Batch r) p = record { report = r; answers = answers; output = output; promised = p.promised; all = refl }
-  responded (some batch) Nothing p = absurd p
-  responded none (Batch r) p = absurd p
-  responded none Nothing p = refl
+  responded : (input : Option (List ℕ)) (h : Option Report) → Hears input h answers output → Response input (saying_for h answers output)
+  responded (Some batch) (Some r) p = record { report = r; answers = answers; output = output; promised = p.promised; all = refl }
+  responded (Some batch) None p = absurd p
+  responded None (Some r) p = absurd p
+  responded None None p = refl
 
   -- .. and 24 where that is no batch.
-  full_24 : (buf : List ℕ) (h : Heard) → is_batch buf ≡ false → Hears (some buf) h answers output → saying_for h answers output ≡ out too_long_message
-  full_24 buf (Batch r) e p = ap out (reports_24 e p.promised)
-  full_24 buf Nothing e p = absurd p
+  full_24 : (buf : List ℕ) (h : Option Report) → is_batch buf ≡ false → Hears (Some buf) h answers output → saying_for h answers output ≡ out too_long_message
+  full_24 buf (Some r) e p = ap out (reports_24 e p.promised)
+  full_24 buf None e p = absurd p
 
-pub heard_in : {stream : Stream} {buf : List ℕ} {h : Heard} {answers output : List ℕ} → HeardPost stream buf h answers output → HeardIn h answers output
+pub heard_in : {stream : Stream} {buf : List ℕ} {h : Option Report} {answers output : List ℕ} → HeardPost stream buf h answers output → HeardIn h answers output
 heard_in {stream} {buf} {h} {answers} {output} p = heard_inside answers output (input_of stream buf) h p.hears
 
-pub responds : {stream : Stream} (buf : List ℕ) {h : Heard} {answers output before after : List ℕ} {r : Said} → HeardPost stream buf h answers output
+pub responds : {stream : Stream} (buf : List ℕ) {h : Option Report} {answers output before after : List ℕ} {r : Said} → HeardPost stream buf h answers output
     → SaidPost (saying_for h answers output) before r after → Responds stream buf r after
 responds {stream} buf {h} {answers} {output} p q =
     record {
       response = subst (Response (input_of stream buf)) (sym q.says) (responded answers output (input_of stream buf) h p.hears);
       counts = q.counts;
       too_long =
-          λ (e : stream ≡ Full).
+          λ (e : stream ≡ Err Full).
           q.says ∙ full_24 answers output buf h (p.too_long e) (subst (λ (s : Stream). Hears (input_of s buf) h answers output) e p.hears);
     }

@@ -10,24 +10,22 @@ use borrow.Author.Tests.{eq-eqb, ne_eqb}
 use borrow.Rule.Slice.PartMut.{mid_of, put_mid}
 use Rattle.wire.specs.Varints.{PutPost}
 use Rattle.wire.proofs.EncodingLaws.{sets_more, Two, Four, four, two_length}
-use mathlib.Core.Logic.{⊎_elim}
 use Rattle.std.specs.Counts.{IsPrefixLen}
-use Rattle.console.proofs.InputLaws.{side}
-use Rattle.console.specs.Numbers.{figures}
-use Rattle.console.specs.Output.{SignedPost, widened_of, hex_text, HexPost}
+use Rattle.std.specs.Fmt.{digits}
+use Rattle.console.specs.Output.{widened_of, hex_text, HexPost}
 use Rattle.console.proofs.OutputLaws.{part_put}
 use Rattle.rollup.specs.declared.accumulator.Accumulator.{Accumulator}
 use Rattle.rollup.specs.Accumulator.{fresh}
 use Rattle.batch.specs.declared.records.Ending.{Ending}
-use Rattle.batch.specs.declared.records.Ending.TheVariants.{Whole, Refused, Full}
-use Rattle.batch.specs.declared.closing.Count.{Count}
-use Rattle.batch.specs.declared.closing.Count.TheVariants.{Registers}
-use Rattle.batch.proofs.NoBatchLaws.{NoBatch}
+use Rattle.batch.specs.declared.records.Ending.TheVariants.{Refused}
+use Rattle.batch.specs.declared.chain.ChainError.TheVariants.{NoBatch}
+use Rattle.std.specs.Prelude.{⊤, Option, Some, Result, Ok, Err}
+use Rattle.batch.proofs.NoBatchLaws.{NoneRolled}
 use Rattle.reporting.specs.Numbers.{signed_text, number_text}
 use Rattle.batch.specs.declared.closing.Report.{Report}
 use Rattle.reporting.specs.Text.{answer_line, answer_lines, ending_text, not_zero_of, numbers_line, numbers_text, state_text, report_text}
 use Rattle.reporting.specs.Report.{too_long_message}
-use Rattle.reporting.proofs.NumberLaws.{signed_one, signed_length, number_length, number_short}
+use Rattle.reporting.proofs.NumberLaws.{number_short}
 use Rattle.rollup.specs.Refusals.{answer_of, length_of}
 
 -- ---- a number
@@ -46,20 +44,11 @@ line_put out y s at end k m room few text rest counts =
           ∙ sets_more out at s (end ∷ []);
     }
 
-pub number_put : (out y : List ℕ) (at v end k m : ℕ) → at + 22 ≤ length out → m ≡ 21 → v < 2 ^ 64 → SignedPost v (mid_of at m out) k y
-    → PutPost out at (number_text v end) (at + k + 1) (set (put_mid at m out y) (at + k) end)
-unfolding number_text
-number_put out y at v end k m room e l p =
-    line_put out y (signed_text v) at end k m (omega arith) (omega (arith, signed_length v)) (signed_one v (take k y) l p.text) p.rest p.counts
-
 -- ---- a record's line
 
 pub answer_is : (ordinal answer : ℕ) → Two (answer_line ordinal answer) (number_text ordinal 32) (number_text answer 10)
 unfolding answer_line
 answer_is ordinal answer = record { is = refl }
-
-pub answer_length : (ordinal answer : ℕ) → length (answer_line ordinal answer) ≤ 44
-answer_length ordinal answer = omega (arith, two_length (answer_is ordinal answer), number_length ordinal 32, number_length answer 10)
 
 -- An ordinal of five digits and an answer of three, with the bytes behind them.
 pub line_length : (ordinal answer : ℕ) → ordinal ≤ 65536 → answer < 256 → length (answer_line ordinal answer) ≤ 10
@@ -104,42 +93,12 @@ module _ (answers : List ℕ) (i : ℕ) where
   unfolding answer_lines
   lines_end h = ap (answer_lines (1 + i)) (drop_of_length-le answers h)
 
--- ---- the ending
-
-module _ {e : Ending} (records : ℕ) where
-  pub ending_none : e ≡ Whole → ending_text e records ≡ []
-  unfolding ending_text
-  ending_none h = ap (λ (k : Ending). ending_text k records) h
-
-  pub ending_full : e ≡ Full → ending_text e records ≡ []
-  unfolding ending_text
-  ending_full h = ap (λ (k : Ending). ending_text k records) h
-
-  pub ending_24 : {n : ℕ} → e ≡ Refused n → n ≡ 24 → answer_line 0 n ≡ ending_text e records
-  unfolding ending_text
-  ending_24 {n} h is = sym (ap (λ (k : Ending). ending_text k records) h ∙ rw (eq-eqb n 24 is))
-
-  pub ending_other : {n : ℕ} → e ≡ Refused n → (n ≡ 24 → ⊥) → answer_line (records + 1) n ≡ ending_text e records
-  unfolding ending_text
-  ending_other {n} h not = sym (ap (λ (k : Ending). ending_text k records) h ∙ rw (ne_eqb n 24 not))
-
-pub ending_length : (e : Ending) (records : ℕ) → length (ending_text e records) ≤ 44
-unfolding ending_text
-ending_length Whole records = omega arith
-ending_length (Refused n) records = answer_length _ n
-ending_length Full records = omega arith
-
 -- ---- the four numbers
 
-pub numbers_are : (a : Accumulator) (c : Count)
+pub numbers_are : (a : Accumulator) (c : Option ℕ)
     → Four (numbers_text a c) (number_text a.precision 32) (number_text (widened_of a.sparse_precision) 32) (number_text a.num_values 32) (number_text (not_zero_of c) 10)
 unfolding numbers_line
 numbers_are a c = four _ _ _ _ refl
-
-pub numbers_length : (a : Accumulator) (c : Count) → length (numbers_text a c) ≤ 88
-numbers_length a c =
-    let f = numbers_are a c in
-    omega (arith, two_length f.first, two_length f.second, two_length f.third, number_length a.precision 32, number_length (widened_of a.sparse_precision) 32, number_length a.num_values 32, number_length (not_zero_of c) 10)
 
 -- ---- the state
 
@@ -155,13 +114,6 @@ state_refused {answer} state n = sym (rw (ne_eqb answer 0 n))
 pub state_written : {answer : ℕ} (state : List ℕ) → answer ≡ 0 → hex_text state ++ 10 ∷ [] ≡ state_text answer state
 unfolding state_text
 state_written {answer} state e = sym (rw (eq-eqb answer 0 e))
-
-pub state_length : (answer : ℕ) (state : List ℕ) → length (state_text answer state) ≤ 2 * length state + 22
-state_length answer state =
-    ⊎_elim
-    (λ (h : 0 < answer). omega (arith, ap (λ (l : List ℕ). length l) (state_refused state (λ (e : answer ≡ 0). omega arith)), number_length answer 10))
-    (λ (h : answer ≤ 0). omega (arith, ap (λ (l : List ℕ). length l) (state_written state (let e : answer ≡ 0 = omega arith in e)), length-append (hex_text state) (10 ∷ []), hex_length state))
-    (side 0 answer)
 
 -- The newline stands behind the text, for which there is room.
 pub hex_room : {bytes out y : List ℕ} {k : ℕ} → HexPost bytes out k y → k ≡ 2 * length bytes
@@ -182,14 +134,14 @@ report_are r answers out =
     (append_assoc (ending_text r.rolled.ending r.rolled.records) (numbers_text r.rolled.head r.not_zero) (state_text (answer_of r.written) (take (length_of r.written) out))))
 
 -- Of bytes that are no batch: "0 24", and of a fresh head four zeros and 21.
-pub text_24 : {r : Report} (answers output : List ℕ) → NoBatch r → report_text r answers output ≡ too_long_message
-unfolding figures signed_text number_text answer_line answer_lines ending_text numbers_line state_text report_text
+pub text_24 : {r : Report} (answers output : List ℕ) → NoneRolled r → report_text r answers output ≡ too_long_message
+unfolding digits signed_text number_text answer_line answer_lines ending_text numbers_line state_text report_text
 text_24 {r} answers output h =
     ap (λ (n : ℕ). all n r.rolled.ending r.rolled.head r.not_zero (answer_of r.written)) h.records
-    ∙ ap (λ (e : Ending). all 0 e r.rolled.head r.not_zero (answer_of r.written)) h.ending
-    ∙ ap (λ (a : Accumulator). all 0 (Refused 24) a r.not_zero (answer_of r.written)) h.head
-    ∙ ap (λ (c : Count). all 0 (Refused 24) fresh c (answer_of r.written)) h.count
-    ∙ ap (all 0 (Refused 24) fresh (Registers 0)) h.written
+    ∙ ap (λ (e : Result ⊤ Ending). all 0 e r.rolled.head r.not_zero (answer_of r.written)) h.ending
+    ∙ ap (λ (a : Accumulator). all 0 (Err (Refused NoBatch)) a r.not_zero (answer_of r.written)) h.head
+    ∙ ap (λ (c : Option ℕ). all 0 (Err (Refused NoBatch)) fresh c (answer_of r.written)) h.count
+    ∙ ap (all 0 (Err (Refused NoBatch)) fresh (Some 0)) h.written
   where
-    all : ℕ → Ending → Accumulator → Count → ℕ → List ℕ
+    all : ℕ → Result ⊤ Ending → Accumulator → Option ℕ → ℕ → List ℕ
     all n e a c answer = answer_lines 1 (take n answers) ++ ((ending_text e n ++ numbers_text a c) ++ state_text answer (take (length_of r.written) output))

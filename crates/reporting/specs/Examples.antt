@@ -1,9 +1,10 @@
 -- Lines of document 01's case B1 and of its rules on 24, 25 and an unstarted roll-up, computed from the definitions.
-use Rattle.std.specs.Prelude.{◌≡◌, refl, [], ◌∷◌, Bool, true, ◌&&◌, ◌-◌, ◌^◌}
+use Rattle.std.specs.Prelude.{◌≡◌, refl, [], ◌∷◌, Bool, true, ◌&&◌, ◌-◌, ◌^◌, Ok, Err}
 use Rattle.wire.specs.Examples.{same_bytes}
 use Rattle.console.specs.Output.{hex_text}
-use Rattle.batch.specs.declared.records.Ending.TheVariants.{Whole, Refused}
-use Rattle.console.specs.Numbers.{figures}
+use Rattle.batch.specs.declared.records.Ending.TheVariants.{Refused}
+use Rattle.batch.specs.declared.chain.ChainError.TheVariants.{NoBatch, Broken}
+use Rattle.std.specs.Fmt.{digits}
 use Rattle.reporting.specs.Numbers.{signed_text, number_text}
 use Rattle.reporting.specs.Text.{answer_line, answer_lines, ending_text, numbers_line, state_text}
 
@@ -11,15 +12,15 @@ use Rattle.reporting.specs.Text.{answer_line, answer_lines, ending_text, numbers
 abbrev pub b1_lines : Bool
 b1_lines =
     same_bytes (answer_lines 1 (0 ∷ 0 ∷ [])) (49 ∷ 32 ∷ 48 ∷ 10 ∷ 50 ∷ 32 ∷ 48 ∷ 10 ∷ [])
-    && same_bytes (ending_text Whole 2) []
+    && same_bytes (ending_text (Ok tt) 2) []
     && same_bytes (numbers_line 10 15 4 2) (49 ∷ 48 ∷ 32 ∷ 49 ∷ 53 ∷ 32 ∷ 52 ∷ 32 ∷ 50 ∷ 10 ∷ [])
     && same_bytes (state_text 0 (8 ∷ 112 ∷ [])) (48 ∷ 56 ∷ 55 ∷ 48 ∷ 10 ∷ [])
 
 -- "0 24"; "3 25" after two records; "Unstarted prints four zeros and 21."
 abbrev pub other_lines : Bool
 other_lines =
-    same_bytes (ending_text (Refused 24) 0) (48 ∷ 32 ∷ 50 ∷ 52 ∷ 10 ∷ [])
-    && same_bytes (ending_text (Refused 25) 2) (51 ∷ 32 ∷ 50 ∷ 53 ∷ 10 ∷ [])
+    same_bytes (ending_text (Err (Refused NoBatch)) 0) (48 ∷ 32 ∷ 50 ∷ 52 ∷ 10 ∷ [])
+    && same_bytes (ending_text (Err (Refused Broken)) 2) (51 ∷ 32 ∷ 50 ∷ 53 ∷ 10 ∷ [])
     && same_bytes (numbers_line 0 0 0 0) (48 ∷ 32 ∷ 48 ∷ 32 ∷ 48 ∷ 32 ∷ 48 ∷ 10 ∷ [])
     && same_bytes (state_text 21 []) (50 ∷ 49 ∷ 10 ∷ [])
 
@@ -31,5 +32,5 @@ signs =
     && same_bytes (signed_text (2 ^ 63 - 1)) (57 ∷ 50 ∷ 50 ∷ 51 ∷ 51 ∷ 55 ∷ 50 ∷ 48 ∷ 51 ∷ 54 ∷ 56 ∷ 53 ∷ 52 ∷ 55 ∷ 55 ∷ 53 ∷ 56 ∷ 48 ∷ 55 ∷ [])
 
 pub examples_hold : (b1_lines && other_lines && signs) ≡ true
-unfolding figures signed_text number_text answer_line answer_lines ending_text numbers_line state_text hex_text
+unfolding digits signed_text number_text answer_line answer_lines ending_text numbers_line state_text hex_text
 examples_hold = refl

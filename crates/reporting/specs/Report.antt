@@ -1,18 +1,15 @@
 -- What `roll` says: the report of a batch that is rolled up in document 01's memory, and what is said of a stream that was read.
-use Rattle.std.specs.Prelude.{◌≡◌, List, false, ℕ, ◌≤◌, length, take}
-use Rattle.std.proofs.Math.Option.{Option, none, some}
+use Rattle.std.specs.Prelude.{◌≡◌, List, false, ℕ, ◌≤◌, Option, Some, None, Ok, Err, length, take}
 use Rattle.std.specs.Counts.{IsPrefixLen}
 use Rattle.wire.specs.Varints.{PutPost}
-use Rattle.console.specs.declared.input.Stream.{Stream}
-use Rattle.console.specs.declared.input.Stream.TheVariants.{All, Failed, Full}
+use Rattle.console.specs.declared.input.StreamError.TheVariants.{Failed, Full}
+use Rattle.console.specs.Input.{Stream}
 use Rattle.console.specs.declared.output.Said.{Said}
 use Rattle.console.specs.Output.{ascii, Saying, out, err, size_of, saying_of}
 use Rattle.rollup.specs.Accumulator.{Mem}
 use Rattle.batch.specs.declared.closing.Report.{Report}
 use Rattle.batch.specs.Chain.{is_batch}
 use Rattle.batch.specs.Closing.{ReportPost}
-use Rattle.reporting.specs.declared.Heard.{Heard}
-use Rattle.reporting.specs.declared.Heard.TheVariants.{Batch, Nothing}
 use Rattle.reporting.specs.Text.{report_text}
 use Rattle.rollup.specs.Refusals.{length_of}
 
@@ -62,9 +59,9 @@ pub record ReportPut (batch before : List ℕ) (n : ℕ) (after : List ℕ) : Ty
 -- What part of the buffer is the input: of a whole stream the bytes that came, and of a longer one the buffer, which has more bytes than a batch may have.
 -- A stream that could not be read is no input.
 abbrev pub input_of : Stream → List ℕ → Option (List ℕ)
-input_of (All n) buf = some (take n buf)
-input_of Full buf = some buf
-input_of Failed buf = none
+input_of (Ok n) buf = Some (take n buf)
+input_of (Err Full) buf = Some buf
+input_of (Err Failed) buf = None
 
 -- What is said of a standard input that could not be read.
 abbrev pub unreadable : List ℕ
@@ -75,35 +72,35 @@ abbrev pub too_long_message : List ℕ
 too_long_message = ascii "0 24\n0 0 0 0\n21\n"
 
 -- Of an input the report is heard, and where there is none nothing is.
-abbrev pub Hears : Option (List ℕ) → Heard → List ℕ → List ℕ → Type 0
-Hears (some batch) (Batch r) answers output = RolledUp batch r answers output
-Hears (some batch) Nothing answers output = ⊥
-Hears none (Batch r) answers output = ⊥
-Hears none Nothing answers output = Unit
+abbrev pub Hears : Option (List ℕ) → Option Report → List ℕ → List ℕ → Type 0
+Hears (Some batch) (Some r) answers output = RolledUp batch r answers output
+Hears (Some batch) None answers output = ⊥
+Hears None (Some r) answers output = ⊥
+Hears None None answers output = Unit
 
 -- A stream that is longer than a batch may be is no batch, so that question 24 shows it.
-pub record HeardPost (stream : Stream) (buf : List ℕ) (h : Heard) (answers output : List ℕ) : Type 0 where
+pub record HeardPost (stream : Stream) (buf : List ℕ) (h : Option Report) (answers output : List ℕ) : Type 0 where
   pub hears : Hears (input_of stream buf) h answers output
-  pub too_long : stream ≡ Full → is_batch buf ≡ false
+  pub too_long : stream ≡ Err Full → is_batch buf ≡ false
 
-abbrev pub HeardIn : Heard → List ℕ → List ℕ → Type 0
-HeardIn (Batch r) answers output = ReportIn r answers output
-HeardIn Nothing answers output = Unit
+abbrev pub HeardIn : Option Report → List ℕ → List ℕ → Type 0
+HeardIn (Some r) answers output = ReportIn r answers output
+HeardIn None answers output = Unit
 
 -- What is said of it: the report on standard output, or a message on standard error.
-abbrev pub saying_for : Heard → List ℕ → List ℕ → Saying
-saying_for (Batch r) answers output = out (report_text r answers output)
-saying_for Nothing answers output = err unreadable
+abbrev pub saying_for : Option Report → List ℕ → List ℕ → Saying
+saying_for (Some r) answers output = out (report_text r answers output)
+saying_for None answers output = err unreadable
 
 -- What `roll` says of an input, and of none.
 abbrev pub Response : Option (List ℕ) → Saying → Type 0
-Response (some batch) (out text) = Reports batch text
-Response (some batch) (err message) = ⊥
-Response none (out text) = ⊥
-Response none (err message) = message ≡ unreadable
+Response (Some batch) (out text) = Reports batch text
+Response (Some batch) (err message) = ⊥
+Response None (out text) = ⊥
+Response None (err message) = message ≡ unreadable
 
 -- That is what is said at the front of the text. A stream that is longer than a batch may be shows, as 24 with no record.
 pub record Responds (stream : Stream) (buf : List ℕ) (said : Said) (text : List ℕ) : Type 0 where
   pub response : Response (input_of stream buf) (saying_of said text)
   pub counts : IsPrefixLen (size_of said) text
-  pub too_long : stream ≡ Full → saying_of said text ≡ out too_long_message
+  pub too_long : stream ≡ Err Full → saying_of said text ≡ out too_long_message

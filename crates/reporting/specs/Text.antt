@@ -1,12 +1,11 @@
 -- The text that is printed of a batch, from what `batch` reports of it. The quotes are of document 01, "The batch"; that each line ends in a newline, 10,
 -- and that the state is lowercase hexadecimal is decided in docs/DECISIONS.md, "The crate `reporting`". 32 is a blank.
-use Rattle.std.specs.Prelude.{List, [], ◌∷◌, ◌++◌, cond, ℕ, ◌+◌, eqb, take}
+use Rattle.std.specs.Prelude.{⊤, Option, Some, None, Result, Ok, Err, List, [], ◌∷◌, ◌++◌, cond, ℕ, ◌+◌, eqb, take}
 use Rattle.console.specs.Output.{widened_of, hex_text}
 use Rattle.rollup.specs.declared.accumulator.Accumulator.{Accumulator}
 use Rattle.batch.specs.declared.records.Ending.{Ending}
-use Rattle.batch.specs.declared.records.Ending.TheVariants.{Whole, Refused, Full}
-use Rattle.batch.specs.declared.closing.Count.{Count}
-use Rattle.batch.specs.declared.closing.Count.TheVariants.{Registers, Short}
+use Rattle.batch.specs.declared.records.Ending.TheVariants.{Refused, Full}
+use Rattle.batch.specs.Chain.{error_number, ordinal_of}
 use Rattle.batch.specs.declared.closing.Report.{Report}
 use Rattle.reporting.specs.Numbers.{number_text}
 use Rattle.rollup.specs.Refusals.{answer_of, length_of}
@@ -21,22 +20,22 @@ answer_lines first [] = []
 answer_lines first (a ∷ answers) = answer_line first a ++ answer_lines (first + 1) answers
 
 -- "24 or 25 prints ordinal (0 for 24) and number": the ordinal is that of the record that could not be had, the one after the `records` that could.
-unfoldable pub ending_text : Ending → ℕ → List ℕ
-ending_text Whole records = []
-ending_text (Refused n) records = answer_line (cond (eqb n 24) 0 (records + 1)) n
-ending_text Full records = []
+unfoldable pub ending_text : Result ⊤ Ending → ℕ → List ℕ
+ending_text (Ok x) records = []
+ending_text (Err (Refused e)) records = answer_line (ordinal_of e records) (error_number e)
+ending_text (Err Full) records = []
 
--- "Registers not zero." `Short` cannot come up where the piece lent for a list's registers is as long as the registers.
-abbrev pub not_zero_of : Count → ℕ
-not_zero_of (Registers n) = n
-not_zero_of Short = 0
+-- "Registers not zero." `None` cannot come up where the piece lent for a list's registers is as long as the registers.
+abbrev pub not_zero_of : Option ℕ → ℕ
+not_zero_of (Some n) = n
+not_zero_of None = 0
 
 -- "Then p, s, value count, registers not zero": s is a signed 32-bit number, the value count one of 64 bits.
 unfoldable pub numbers_line : ℕ → ℕ → ℕ → ℕ → List ℕ
 numbers_line p s count not_zero_count = number_text p 32 ++ (number_text (widened_of s) 32 ++ (number_text count 32 ++ number_text not_zero_count 10))
 
 -- The same of a head, which has the first three.
-abbrev pub numbers_text : Accumulator → Count → List ℕ
+abbrev pub numbers_text : Accumulator → Option ℕ → List ℕ
 numbers_text a not_zero_count = numbers_line a.precision a.sparse_precision a.num_values (not_zero_of not_zero_count)
 
 -- "Then the written state, or the writing refusal's number." The answer 0 is no refusal.

@@ -10,20 +10,14 @@ ghost use Rattle.reporting.specs.Report.{RolledUp, ReportPut, HeardPost, HeardIn
 
 use batch::closing;
 use batch::closing::Report;
-use console::input::{Arrived, Stream};
+use console::input::{Arrived, StreamError};
 use console::output::Said;
 use console::{input, output};
 use rollup::memory::Memory;
-use std::io::{Stderr, Stdin, Stdout};
+use std::io::{Print, Read};
+use wire::encoding::put_bytes;
 
 mod text;
-
-// What was heard of a stream: the report of a batch, or nothing where the stream could not be read.
-#[derive(Clone, Copy)]
-enum Heard {
-    Batch(Report),
-    Nothing,
-}
 
 // Rolls up a batch in "65,536 registers, three lists of 16,384 and 65,536 output bytes". 65,536 cells suffice for the answers, and a piece as long as the
 // registers for those of a list.
@@ -54,37 +48,39 @@ pub fn roll_batch(batch: &[u8], text: &mut [u8; 350000]) -> usize
     text::put_report(r, &answers, &out, text)
 }
 
-// Between reading and rolling up. A stream that fills the buffer has more than 65,536 bytes, however it arrived, and is 24 by its length. A failed read is
-// not the end: nothing is rolled up of an input that did not arrive whole.
-fn hear(stream: Stream, buf: &[u8], answers: &mut [u8; 65536], out: &mut [u8; 65536]) -> Heard
+// Between reading and rolling up: the report of a batch, or nothing where the stream could not be read. A stream that fills the buffer has more than 65,536
+// bytes, however it arrived, and is 24 by its length. A failed read is not the end: nothing is rolled up of an input that did not arrive whole.
+fn hear(
+    stream: Result<usize, StreamError>,
+    buf: &[u8],
+    answers: &mut [u8; 65536],
+    out: &mut [u8; 65536],
+) -> Option<Report>
     requires { (65536 < length buf.now) × StreamPost buf.now stream }
     ensures { HeardPost stream buf.now result answers.new out.new }
 {
     match stream {
-        Stream::All(n) => Heard::Batch(roll_up(&buf[..n], answers, out)),
-        Stream::Full => Heard::Batch(roll_up(buf, answers, out)),
-        Stream::Failed => Heard::Nothing,
+        Ok(n) => Some(roll_up(&buf[..n], answers, out)),
+        Err(StreamError::Full) => Some(roll_up(buf, answers, out)),
+        Err(StreamError::Failed) => None,
     }
 }
 
 // What there is to say of it, at the front of `text`.
-fn respond(heard: Heard, answers: &[u8], out: &[u8], text: &mut [u8; 350000]) -> Said
+fn respond(heard: Option<Report>, answers: &[u8], out: &[u8], text: &mut [u8; 350000]) -> Said
     requires { HeardIn heard answers.now out.now }
     ensures { SaidPost (saying_for heard answers.now out.now) text.old result text.new }
 {
     match heard {
-        Heard::Batch(r) => Said::Out(text::put_report(r, answers, out, text)),
-        Heard::Nothing => {
-            output::put(text, 0, b"roll: standard input cannot be read\n");
-            Said::Err(36)
-        }
+        Some(r) => Said::Out(text::put_report(r, answers, out, text)),
+        None => Said::Err(put_bytes(text, 0, b"roll: standard input cannot be read\n")),
     }
 }
 
 // That what is handed over is what `roll` is to say of the stream that was read into this buffer is what this asks; what reaches a descriptor no contract can say.
 fn hand_over(
-    stdout: Stdout,
-    stderr: Stderr,
+    stdout: &impl Print,
+    stderr: &impl Print,
     arrived: Arrived,
     buf: &[u8],
     said: Said,
@@ -92,16 +88,16 @@ fn hand_over(
 )
     requires { ArrivedIn buf.now arrived × Responds arrived.stream buf.now said text.now }
 {
-    output::say(stdout, stderr, b"roll", said, text);
+    output::say(stdout, stderr, "roll", said, text);
 }
 
 // Makes what there is to say, and hands it over.
 fn tell(
-    stdout: Stdout,
-    stderr: Stderr,
+    stdout: &impl Print,
+    stderr: &impl Print,
     arrived: Arrived,
     buf: &[u8],
-    heard: Heard,
+    heard: Option<Report>,
     answers: &[u8; 65536],
     out: &[u8; 65536],
 )
@@ -115,31 +111,13 @@ fn tell(
 // The program `roll`: reads a batch from standard input, rolls it up and says what there is to say. The buffer has one byte more than the longest batch.
 // `tell` is called in two places, since the compiler takes a function that is called in one into its caller: the text then takes the stack that `roll_up`
 // has given back.
-pub fn roll(mut stdin: Stdin, stdout: Stdout, stderr: Stderr) {
+pub fn roll(stdin: &mut impl Read, stdout: &impl Print, stderr: &impl Print) {
     let mut buf = [0u8; 65537];
     let mut answers = [0u8; 65536];
     let mut out = [0u8; 65536];
-    let arrived = input::read_all(&mut stdin, &mut buf);
-    let stream = arrived.stream;
-    let heard = hear(stream, &buf, &mut answers, &mut out);
-    match heard {
-        Heard::Batch(r) => tell(
-            stdout,
-            stderr,
-            arrived,
-            &buf,
-            Heard::Batch(r),
-            &answers,
-            &out,
-        ),
-        Heard::Nothing => tell(
-            stdout,
-            stderr,
-            arrived,
-            &buf,
-            Heard::Nothing,
-            &answers,
-            &out,
-        ),
+    let arrived = input::read_all(stdin, &mut buf);
+    match hear(arrived.stream, &buf, &mut answers, &mut out) {
+        Some(r) => tell(stdout, stderr, arrived, &buf, Some(r), &answers, &out),
+        None => tell(stdout, stderr, arrived, &buf, None, &answers, &out),
     }
 }

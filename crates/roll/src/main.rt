@@ -2,5 +2,5 @@
 #![tactic(auto)]
 
 fn main(rt: HostRuntime) {
-    reporting::roll(rt.stdin(), rt.stdout(), rt.stderr());
+    reporting::roll(&mut rt.stdin(), &rt.stdout(), &rt.stderr());
 }

@@ -2,42 +2,22 @@
 // line is, and how the vectors were made, is said in compare/vectors/README.md.
 #![tactic(auto)]
 
-ghost use Rattle.std.specs.Prelude.{◌≡◌, ◌≤◌, ◌<◌, length};
+ghost use Rattle.std.specs.Prelude.{◌≤◌, ◌<◌, length, IfOk};
 
-use console::input::Bytes;
-use console::text;
+use console::input::{cut, read_bytes, read_cases};
+use console::memory::filled;
+use console::show::{bad_case, print_line};
+use console::text::{number, precision, read_list, word};
 use rollup::accumulator::{Accumulator, Form};
-use std::io::Stdout;
+use std::io;
+use std::io::Print;
 
 mod answers;
 
-// What is lent is filled, to see which register bytes are written, with a register that no head allows and a value that no list allows. Of
-// each array a caller need only know the length.
-fn register_bytes() -> [u8; 16384]
-    ensures { 16384 ≡ length result }
-{
-    [165; 16384]
-}
+// What is lent is filled, to see which register bytes are written, with a register that no head allows and a value that no list allows.
+const BYTE: u8 = 165;
 
-fn list_cells() -> [u32; 8192]
-    ensures { 8192 ≡ length result }
-{
-    [2779096485; 8192]
-}
-
-// An output, filled in the same way.
-fn output_bytes() -> [u8; 20480]
-    ensures { 20480 ≡ length result }
-{
-    [165; 20480]
-}
-
-// Room for the cases.
-fn stream_bytes() -> [u8; 163840]
-    ensures { 163840 ≡ length result }
-{
-    [0; 163840]
-}
+const CELL: u32 = 2779096485;
 
 // ---- heads
 
@@ -54,92 +34,92 @@ fn mask(v: u32) -> u8 {
 }
 
 // The head of a line: its ten numbers, those that are signed as the unsigned ones of the same bits.
-fn head_line(stdout: Stdout, line: &[u8]) -> Accumulator {
-    let form = form(text::precision(text::word(line, 1)));
-    text::print_ok(stdout);
-    Accumulator {
+fn head_line(rt: &impl Print, line: &[u8]) -> io::Result<Accumulator> {
+    let form = form(precision(word(line, 1)));
+    println!(rt; "ok")?;
+    Ok(Accumulator {
         form,
-        allowed: mask(text::precision(text::word(line, 2))),
-        value_type: text::precision(text::word(line, 3)),
-        num_values: text::number(text::word(line, 4)),
-        precision: text::precision(text::word(line, 5)),
-        sparse_precision: text::precision(text::word(line, 6)),
-        sparse_size: text::precision(text::word(line, 7)),
-        sparse_len: text::number(text::word(line, 8)) as usize,
-        sparse_bytes: text::number(text::word(line, 9)) as usize,
-        pending_len: text::number(text::word(line, 10)) as usize,
-    }
+        allowed: mask(precision(word(line, 2))),
+        value_type: precision(word(line, 3)),
+        num_values: number(word(line, 4)),
+        precision: precision(word(line, 5)),
+        sparse_precision: precision(word(line, 6)),
+        sparse_size: precision(word(line, 7)),
+        sparse_len: number(word(line, 8)) as usize,
+        sparse_bytes: number(word(line, 9)) as usize,
+        pending_len: number(word(line, 10)) as usize,
+    })
 }
 
 // ---- memory
 
 // Bytes at the front of the registers.
-fn registers_line(stdout: Stdout, line: &[u8], registers: &mut [u8]) {
-    match console::input::read_bytes(text::word(line, 1), registers) {
-        Bytes::Count(_) => text::print_ok(stdout),
-        Bytes::Other => text::bad_case(stdout),
+fn registers_line(rt: &impl Print, line: &[u8], registers: &mut [u8]) -> io::Result<()> {
+    match read_bytes(word(line, 1), registers) {
+        Some(_) => println!(rt; "ok"),
+        None => bad_case(rt),
     }
 }
 
 // Values at the front of a list.
-fn list_line(stdout: Stdout, line: &[u8], list: &mut [u32]) {
-    match text::read_list(text::word(line, 1), list) {
-        text::Listed::Count(_) => text::print_ok(stdout),
-        text::Listed::Other => text::bad_case(stdout),
+fn list_line(rt: &impl Print, line: &[u8], list: &mut [u32]) -> io::Result<()> {
+    match read_list(word(line, 1), list) {
+        Some(_) => println!(rt; "ok"),
+        None => bad_case(rt),
     }
 }
 
 // ---- calls
 
 fn add_case(
-    stdout: Stdout,
+    rt: &impl Print,
     head: Accumulator,
     registers: &mut [u8],
     sparse: &mut [u32],
     pending: &mut [u32],
     scratch: &mut [u32],
     bytes: &[u8],
-) -> Accumulator {
+) -> io::Result<Accumulator> {
     let r = rollup::adding::add(head, registers, sparse, pending, scratch, bytes);
     answers::print_after(
-        stdout,
+        rt,
         r.answer,
         r.head,
         &registers[..],
         &sparse[..],
         &pending[..],
-    );
-    r.head
+    )?;
+    Ok(r.head)
 }
 
 // The same by the function that asks for a head that fits.
 fn fitting_case(
-    stdout: Stdout,
+    rt: &impl Print,
     head: Accumulator,
     registers: &mut [u8],
     sparse: &mut [u32],
     pending: &mut [u32],
     scratch: &mut [u32],
     bytes: &[u8],
-) -> Accumulator {
+) -> io::Result<Accumulator> {
     if !rollup::fitting::fits(head, &registers[..], &sparse[..], &pending[..]) {
-        text::bad_case(stdout);
-        return head;
+        bad_case(rt)?;
+        return Ok(head);
     }
     let r = rollup::adding::add_fitting(head, false, registers, sparse, pending, scratch, bytes);
     answers::print_after(
-        stdout,
+        rt,
         r.answer,
         r.head,
         &registers[..],
         &sparse[..],
         &pending[..],
-    );
-    r.head
+    )?;
+    Ok(r.head)
 }
 
 fn state_case(
-    stdout: Stdout,
+    rt: &impl Print,
     kind: u8,
     head: Accumulator,
     registers: &mut [u8],
@@ -147,15 +127,15 @@ fn state_case(
     pending: &mut [u32],
     scratch: &mut [u32],
     bytes: &[u8],
-) -> Accumulator {
+) -> io::Result<Accumulator> {
     if kind == b'f' {
-        return fitting_case(stdout, head, registers, sparse, pending, scratch, bytes);
+        return fitting_case(rt, head, registers, sparse, pending, scratch, bytes);
     }
-    add_case(stdout, head, registers, sparse, pending, scratch, bytes)
+    add_case(rt, head, registers, sparse, pending, scratch, bytes)
 }
 
 fn add_line(
-    stdout: Stdout,
+    rt: &impl Print,
     kind: u8,
     head: Accumulator,
     registers: &mut [u8],
@@ -163,15 +143,14 @@ fn add_line(
     pending: &mut [u32],
     scratch: &mut [u32],
     line: &[u8],
-) -> Accumulator {
-    let mut bytes = console::memory::buffer();
-    let r = console::input::read_bytes(text::word(line, 1), &mut bytes);
-    let Bytes::Count(n) = r else {
-        text::bad_case(stdout);
-        return head;
+) -> io::Result<Accumulator> {
+    let mut bytes: [u8; 4096] = filled(0);
+    let Some(n) = read_bytes(word(line, 1), &mut bytes) else {
+        bad_case(rt)?;
+        return Ok(head);
     };
     state_case(
-        stdout,
+        rt,
         kind,
         head,
         registers,
@@ -186,47 +165,45 @@ fn add_line(
 fn size(word: &[u8], most: usize) -> usize
     ensures { result ≤ most }
 {
-    let v = text::number(word) as usize;
-    if v < most { v } else { most }
+    (number(word) as usize).min(most)
 }
 
 fn write_case(
-    stdout: Stdout,
+    rt: &impl Print,
     head: Accumulator,
     registers: &[u8],
     sparse: &[u32],
     pending: &mut [u32],
     scratch: &mut [u32],
     out: &mut [u8],
-) {
+) -> io::Result<()> {
     let r = rollup::writing::write(head, registers, sparse, pending, scratch, out);
-    answers::print_written(stdout, r.answer, r.len, &out[..]);
-    answers::print_memory(stdout, head, registers, sparse, &pending[..]);
-    text::end_line(stdout);
+    answers::print_written(rt, r.answer, r.len, &out[..])?;
+    answers::print_memory(rt, head, registers, sparse, &pending[..])?;
+    println!(rt; "")
 }
 
 // The same by the function that asks for a head that fits.
 fn write_fitting_case(
-    stdout: Stdout,
+    rt: &impl Print,
     head: Accumulator,
     registers: &[u8],
     sparse: &[u32],
     pending: &mut [u32],
     scratch: &mut [u32],
     out: &mut [u8],
-) {
+) -> io::Result<()> {
     if !rollup::fitting::fits(head, registers, sparse, &pending[..]) {
-        text::bad_case(stdout);
-        return;
+        return bad_case(rt);
     }
     let r = rollup::writing::write_fitting(head, registers, sparse, pending, scratch, out);
-    answers::print_written(stdout, r.answer, r.len, &out[..]);
-    answers::print_memory(stdout, head, registers, sparse, &pending[..]);
-    text::end_line(stdout);
+    answers::print_written(rt, r.answer, r.len, &out[..])?;
+    answers::print_memory(rt, head, registers, sparse, &pending[..])?;
+    println!(rt; "")
 }
 
 fn output_case(
-    stdout: Stdout,
+    rt: &impl Print,
     kind: u8,
     head: Accumulator,
     registers: &[u8],
@@ -234,16 +211,16 @@ fn output_case(
     pending: &mut [u32],
     scratch: &mut [u32],
     out: &mut [u8],
-) {
+) -> io::Result<()> {
     if kind == b'u' {
-        write_fitting_case(stdout, head, registers, sparse, pending, scratch, out);
+        write_fitting_case(rt, head, registers, sparse, pending, scratch, out)
     } else {
-        write_case(stdout, head, registers, sparse, pending, scratch, out);
+        write_case(rt, head, registers, sparse, pending, scratch, out)
     }
 }
 
 fn write_line(
-    stdout: Stdout,
+    rt: &impl Print,
     kind: u8,
     head: Accumulator,
     registers: &[u8],
@@ -251,11 +228,11 @@ fn write_line(
     pending: &mut [u32],
     scratch: &mut [u32],
     line: &[u8],
-) {
-    let n = size(text::word(line, 1), 20480);
-    let mut out = output_bytes();
+) -> io::Result<()> {
+    let n = size(word(line, 1), 20480);
+    let mut out: [u8; 20480] = filled(BYTE);
     output_case(
-        stdout,
+        rt,
         kind,
         head,
         registers,
@@ -263,37 +240,29 @@ fn write_line(
         pending,
         scratch,
         &mut out[..n],
-    );
+    )
 }
 
 // ---- lines
 
-fn remark(stdout: Stdout, line: &[u8]) {
-    console::output::print(stdout, line);
-    text::end_line(stdout);
-}
-
 // A line at a roll-up: a letter, and behind a blank its operands. The answer is the head after it.
 fn case(
-    stdout: Stdout,
+    rt: &impl Print,
     head: Accumulator,
     registers: &mut [u8],
     sparse: &mut [u32],
     pending: &mut [u32],
     scratch: &mut [u32],
     line: &[u8],
-) -> Accumulator {
-    if line.len() == 0 {
-        text::bad_case(stdout);
-        return head;
-    }
-    let kind = line[0];
+) -> io::Result<Accumulator> {
+    let Some(&kind) = line.first() else {
+        bad_case(rt)?;
+        return Ok(head);
+    };
     match kind {
-        b'a' | b'f' => return add_line(
-            stdout, kind, head, registers, sparse, pending, scratch, line,
-        ),
+        b'a' | b'f' => return add_line(rt, kind, head, registers, sparse, pending, scratch, line),
         b'o' | b'u' => write_line(
-            stdout,
+            rt,
             kind,
             head,
             &registers[..],
@@ -301,65 +270,59 @@ fn case(
             pending,
             scratch,
             line,
-        ),
-        b'h' => return head_line(stdout, line),
-        b'r' => registers_line(stdout, line, registers),
-        b'k' => list_line(stdout, line, sparse),
-        b'w' => list_line(stdout, line, pending),
-        b'q' => answers::print_asked(stdout, head),
-        b'#' => remark(stdout, line),
-        _ => text::bad_case(stdout),
+        )?,
+        b'h' => return head_line(rt, line),
+        b'r' => registers_line(rt, line, registers)?,
+        b'k' => list_line(rt, line, sparse)?,
+        b'w' => list_line(rt, line, pending)?,
+        b'q' => answers::print_asked(rt, head)?,
+        b'#' => print_line(rt, line)?,
+        _ => bad_case(rt)?,
     }
-    head
+    Ok(head)
 }
 
-// The lines up to the next `n`, at a roll-up that begins fresh with this memory. The answer is where they end.
-fn calls(
-    stdout: Stdout,
-    text: &[u8],
-    start: usize,
+// The lines up to the next `n`, at a roll-up that begins fresh with this memory. The answer is what is left of the text. A cursor, and no iterator over
+// lines, since the line that ends a roll-up belongs to the next.
+fn calls<'a>(
+    rt: &impl Print,
+    text: &'a [u8],
     registers: &mut [u8],
     sparse: &mut [u32],
     pending: &mut [u32],
     scratch: &mut [u32],
-) -> usize
-    ensures { start ≤ result }
+) -> io::Result<&'a [u8]>
+    ensures { IfOk result (λ rest. length rest.now ≤ length text.now) }
 {
     let mut head = Accumulator::new();
-    let mut at = start;
-    while at < text.len() {
-        if text[at] == b'n' {
-            return at;
-        }
-        let end = console::input::find(text, at, b'\n');
-        let next = end + 1;
-        head = case(
-            stdout,
-            head,
-            registers,
-            sparse,
-            pending,
-            scratch,
-            &text[at..end],
-        );
-        at = next;
+    let mut rest = text;
+    while !rest.is_empty() && rest[0] != b'n' {
+        let (line, next) = cut(rest, b'\n');
+        head = case(rt, head, registers, sparse, pending, scratch, line)?;
+        rest = next;
     }
-    at
+    Ok(rest)
 }
 
 // The same with memory of these sizes.
-fn lend(stdout: Stdout, text: &[u8], start: usize, r: usize, k: usize, w: usize, s: usize) -> usize
+fn lend<'a>(
+    rt: &impl Print,
+    text: &'a [u8],
+    r: usize,
+    k: usize,
+    w: usize,
+    s: usize,
+) -> io::Result<&'a [u8]>
     requires { (r ≤ 16384) × (k ≤ 8192) × (w ≤ 8192) × (s ≤ 8192) }
-    ensures { start ≤ result }
+    ensures { IfOk result (λ rest. length rest.now ≤ length text.now) }
 {
-    let mut registers = register_bytes();
-    let mut sparse = list_cells();
-    let mut pending = list_cells();
-    let mut scratch = list_cells();
+    let mut registers: [u8; 16384] = filled(BYTE);
+    let mut sparse: [u32; 8192] = filled(CELL);
+    let mut pending: [u32; 8192] = filled(CELL);
+    let mut scratch: [u32; 8192] = filled(CELL);
     calls(
-        stdout,
+        rt,
         text,
-        start,
         &mut registers[..r],
         &mut sparse[..k],
         &mut pending[..w],
@@ -367,40 +330,42 @@ fn lend(stdout: Stdout, text: &[u8], start: usize, r: usize, k: usize, w: usize,
     )
 }
 
-// A new roll-up, whose lines start at `start`.
-fn new_line(stdout: Stdout, text: &[u8], start: usize, line: &[u8]) -> usize
-    ensures { start ≤ result }
+// A new roll-up, by its line `n`. The answer is what is left of the text behind that line and its calls.
+fn new_line<'a>(rt: &impl Print, text: &'a [u8], line: &[u8]) -> io::Result<&'a [u8]>
+    ensures { IfOk result (λ rest. length rest.now ≤ length text.now) }
 {
-    let r = size(text::word(line, 1), 16384);
-    let k = size(text::word(line, 2), 8192);
-    let w = size(text::word(line, 3), 8192);
-    let s = size(text::word(line, 4), 8192);
-    text::print_ok(stdout);
-    lend(stdout, text, start, r, k, w, s)
+    let r = size(word(line, 1), 16384);
+    let k = size(word(line, 2), 8192);
+    let w = size(word(line, 3), 8192);
+    let s = size(word(line, 4), 8192);
+    println!(rt; "ok")?;
+    lend(rt, text, r, k, w, s)
 }
 
-// A roll-up from its line `n` on; or a line before the first one, which is a remark. The answer is where the next starts.
-fn roll_up(stdout: Stdout, text: &[u8], at: usize) -> usize
-    requires { at < length text.now }
-    ensures { at < result }
+// A roll-up from its line `n` on; or a line before the first one, which is a remark. The answer is what is left of the text.
+fn roll_up<'a>(rt: &impl Print, text: &'a [u8]) -> io::Result<&'a [u8]>
+    requires { 0 < length text.now }
+    ensures { IfOk result (λ rest. length rest.now < length text.now) }
 {
-    let end = console::input::find(text, at, b'\n');
-    if text[at] == b'n' {
-        return new_line(stdout, text, end + 1, &text[at..end]);
+    let (line, rest) = cut(text, b'\n');
+    if text[0] == b'n' {
+        return new_line(rt, rest, line);
     }
-    remark(stdout, &text[at..end]);
-    end + 1
+    print_line(rt, line)?;
+    Ok(rest)
 }
 
-fn all_cases(stdout: Stdout, text: &[u8]) {
-    let mut at: usize = 0;
-    while at < text.len() {
-        at = roll_up(stdout, text, at);
+fn replay(rt: &impl Print, text: &[u8]) -> io::Result<()> {
+    let mut rest = text;
+    while !rest.is_empty() {
+        rest = roll_up(rt, rest)?;
     }
+    Ok(())
 }
 
+// A write that fails leaves the output short, which a comparison shows. A `main` that answers it would rest on one more function of C.
 fn main(rt: HostRuntime) {
-    let mut buf = stream_bytes();
-    let n = console::input::read_cases(rt.stdin(), rt.stderr(), b"rollup_cases", &mut buf);
-    all_cases(rt.stdout(), &buf[..n]);
+    let mut buf: [u8; 163840] = filled(0);
+    let n = read_cases(&mut rt.stdin(), &rt.stderr(), "rollup_cases", &mut buf);
+    let _ = replay(&rt, &buf[..n]);
 }

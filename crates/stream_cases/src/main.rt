@@ -2,10 +2,10 @@
 // which takes more than one read; and its end.
 #![tactic(auto)]
 
-use console::input::{Arrived, Stream};
-use console::{input, memory, output, text};
+use console::input::{Arrived, StreamError, read_all};
+use console::memory::filled;
 use std::io;
-use std::io::{Error, ErrorKind, Read, Stdin, Stdout};
+use std::io::{Error, ErrorKind, Print, Read};
 
 // A stream of which each read fails.
 #[derive(Drop)]
@@ -17,29 +17,24 @@ impl Read for Unreadable {
     }
 }
 
-fn print_stream(stdout: Stdout, arrived: Arrived) {
-    let stream = arrived.stream;
-    match stream {
-        Stream::All(n) => {
-            output::print(stdout, b"all ");
-            text::print_number(stdout, n as u64);
-            text::end_line(stdout);
-        }
-        Stream::Failed => output::print(stdout, b"failed\n"),
-        Stream::Full => output::print(stdout, b"full\n"),
+fn print_stream(rt: &impl Print, arrived: Arrived) -> io::Result<()> {
+    match arrived.stream {
+        Ok(n) => println!(rt; "all {n}"),
+        Err(StreamError::Failed) => println!(rt; "failed"),
+        Err(StreamError::Full) => println!(rt; "full"),
     }
 }
 
-fn read_to_the_end(mut stdin: Stdin, stdout: Stdout, buf: &mut [u8]) {
-    print_stream(stdout, input::read_all(&mut stdin, buf));
+fn replay(rt: &HostRuntime) -> io::Result<()> {
+    let mut short: [u8; 4096] = filled(0);
+    let mut long: [u8; 65536] = filled(0);
+    print_stream(rt, read_all(&mut Unreadable, &mut short))?;
+    print_stream(rt, read_all(&mut rt.stdin(), &mut short))?;
+    print_stream(rt, read_all(&mut rt.stdin(), &mut long))?;
+    print_stream(rt, read_all(&mut rt.stdin(), &mut long))
 }
 
+// A write that fails leaves the output short, which a comparison shows. A `main` that answers it would rest on one more function of C.
 fn main(rt: HostRuntime) {
-    let mut short = memory::buffer();
-    let mut long = memory::large_buffer();
-    let mut unreadable = Unreadable;
-    print_stream(rt.stdout(), input::read_all(&mut unreadable, &mut short));
-    read_to_the_end(rt.stdin(), rt.stdout(), &mut short);
-    read_to_the_end(rt.stdin(), rt.stdout(), &mut long);
-    read_to_the_end(rt.stdin(), rt.stdout(), &mut long);
+    let _ = replay(&rt);
 }

@@ -2,5 +2,5 @@
 #![tactic(auto)]
 
 fn main(rt: HostRuntime) {
-    exports::programs::unpack(rt.stdin(), rt.stdout(), rt.stderr());
+    exports::programs::unpack(&mut rt.stdin(), &rt.stdout(), &rt.stderr());
 }

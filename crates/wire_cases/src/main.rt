@@ -4,200 +4,162 @@
 
 ghost use Rattle.std.specs.Prelude.{◌≤◌, length};
 
-use console::text;
-use std::io::Stdout;
-use wire::encoding::Encoded;
-use wire::state::{Fields, Parsed};
-use wire::varint::{Cursor, Varint};
+use console::input::{Pieces, cut, read_bytes, read_cases, read_number};
+use console::memory::filled;
+use console::output::all_are;
+use console::show::{Hex, Int32, Int64, bad_case, print_line};
+use std::io;
+use std::io::Print;
+use wire::varint::Cursor;
+use wire::view::StateView;
 
 // What an output is filled with, to see which of its bytes are written.
 const FILL: u8 = 165;
 
-fn print_signed(stdout: Stdout, v: u64) {
-    console::output::print_signed(&stdout, v);
-    text::space(stdout);
-}
-
 // A data field: `-` where it is absent, `.` where it is empty.
-fn print_part(stdout: Stdout, present: bool, bytes: &[u8]) {
+fn print_part(rt: &impl Print, present: bool, bytes: &[u8]) -> io::Result<()> {
     if !present {
-        console::output::print(stdout, b"-");
-    } else if bytes.len() == 0 {
-        console::output::print(stdout, b".");
+        print!(rt; "-")
+    } else if bytes.is_empty() {
+        print!(rt; ".")
     } else {
-        text::print_hex(stdout, bytes);
+        print!(rt; "{}", Hex(bytes))
     }
 }
 
-fn print_fields(stdout: Stdout, bytes: &[u8], f: Fields) {
+fn print_fields(rt: &impl Print, view: StateView) -> io::Result<()> {
+    let f = view.fields;
     let h = f.hll;
-    print_signed(stdout, console::output::widened(f.aggregator_type));
-    print_signed(stdout, f.num_values);
-    print_signed(stdout, console::output::widened(f.encoding_version));
-    print_signed(stdout, console::output::widened(f.value_type));
-    print_signed(stdout, console::output::widened(h.sparse_size));
-    print_signed(stdout, console::output::widened(h.precision));
-    print_signed(stdout, console::output::widened(h.sparse_precision));
-    print_part(stdout, h.data_present, wire::state::data(bytes, f));
-    text::space(stdout);
-    print_part(
-        stdout,
-        h.sparse_data_present,
-        wire::state::sparse_data(bytes, f),
+    let (kind, count) = (Int32(f.aggregator_type), Int64(f.num_values));
+    let (version, value_type) = (Int32(f.encoding_version), Int32(f.value_type));
+    let (size, p, s) = (
+        Int32(h.sparse_size),
+        Int32(h.precision),
+        Int32(h.sparse_precision),
     );
+    print!(rt; "{kind} {count} {version} {value_type} {size} {p} {s} ")?;
+    print_part(rt, h.data_present, view.data())?;
+    print!(rt; " ")?;
+    print_part(rt, h.sparse_data_present, view.sparse_data())?;
+    println!(rt; "")
 }
 
-fn parse_case(stdout: Stdout, bytes: &[u8]) {
-    let r = wire::state::parse(bytes);
-    match r {
-        Parsed::Read(f) => print_fields(stdout, bytes, f),
-        Parsed::Refused(n) => text::print_refused(stdout, n),
+fn parse_case(rt: &impl Print, bytes: &[u8]) -> io::Result<()> {
+    match StateView::parse(bytes) {
+        Ok(view) => print_fields(rt, view),
+        Err(e) => println!(rt; "refused {}", e as u8),
     }
-    text::end_line(stdout);
 }
 
-fn varint_case(stdout: Stdout, at: usize, bytes: &[u8]) {
-    let r = wire::varint::read_varint(bytes, Cursor { at });
-    match r {
-        Varint::Value(v, next) => {
-            text::print_number(stdout, v);
-            text::space(stdout);
-            text::print_number(stdout, next.at as u64);
-        }
-        Varint::Cut => text::print_refused(stdout, 3),
-        Varint::Long => text::print_refused(stdout, 4),
+fn varint_case(rt: &impl Print, at: usize, bytes: &[u8]) -> io::Result<()> {
+    match wire::varint::read_varint(bytes, Cursor { at }) {
+        Ok((v, next)) => println!(rt; "{v} {}", next.at),
+        Err(e) => println!(rt; "refused {}", e as u8),
     }
-    text::end_line(stdout);
 }
 
-fn put_case(stdout: Stdout, v: u64) {
+fn put_case(rt: &impl Print, v: u64) -> io::Result<()> {
     let mut out = [0u8; 10];
     let n = wire::varint::put_varint(&mut out, 0, v);
-    text::print_hex(stdout, &out[..n]);
-    text::end_line(stdout);
+    println!(rt; "{}", Hex(&out[..n]))
 }
 
-fn length_case(stdout: Stdout, v: u64) {
-    if v < 0x1_0000_0000 {
-        let n = wire::varint::varint_len(v as u32);
-        text::print_number(stdout, n as u64);
-        text::end_line(stdout);
-    } else {
-        text::bad_case(stdout);
-    }
+fn length_case(rt: &impl Print, v: u64) -> io::Result<()> {
+    let Ok(v) = u32::try_from(v) else {
+        return bad_case(rt);
+    };
+    println!(rt; "{}", wire::varint::varint_len(v))
 }
 
 // Whether the output behind the written bytes is as it was.
-fn print_touched(stdout: Stdout, rest: &[u8]) {
-    if !console::output::all_are(rest, FILL) {
-        console::output::print(stdout, b" touched");
+fn print_touched(rt: &impl Print, rest: &[u8]) -> io::Result<()> {
+    if !all_are(rest, FILL) {
+        print!(rt; " touched")?;
     }
-    text::end_line(stdout);
+    println!(rt; "")
 }
 
 // The first n bytes, and whether those behind them are as they were.
-fn print_written(stdout: Stdout, n: usize, out: &[u8])
+fn print_written(rt: &impl Print, n: usize, out: &[u8]) -> io::Result<()>
     requires { n ≤ length out.now }
 {
-    text::print_hex(stdout, &out[..n]);
-    print_touched(stdout, &out[n..]);
+    print!(rt; "{}", Hex(&out[..n]))?;
+    print_touched(rt, &out[n..])
 }
 
 // Written again into the first `size` bytes of `out`.
-fn encode_case(stdout: Stdout, size: usize, bytes: &[u8], out: &mut [u8]) {
-    let p = wire::state::parse(bytes);
-    let Parsed::Read(f) = p else {
-        text::bad_case(stdout);
-        return;
+fn encode_case(rt: &impl Print, size: usize, bytes: &[u8], out: &mut [u8]) -> io::Result<()> {
+    let Ok(view) = StateView::parse(bytes) else {
+        return bad_case(rt);
     };
     if out.len() < size {
-        text::bad_case(stdout);
-        return;
+        return bad_case(rt);
     }
-    let r = wire::encoding::encode(bytes, f, &mut out[..size]);
-    match r {
-        Encoded::Written(n) => print_written(stdout, n, &out[..]),
-        Encoded::Short => {
-            text::print_refused(stdout, 23);
-            print_touched(stdout, &out[..]);
+    match view.encode(&mut out[..size]) {
+        Ok(n) => print_written(rt, n, out),
+        Err(e) => {
+            print!(rt; "refused {}", e as u8)?;
+            print_touched(rt, out)
         }
     }
 }
 
-fn byte_case(stdout: Stdout, kind: u8, v: u64, bytes: &[u8]) {
+fn byte_case(rt: &impl Print, kind: u8, v: u64, bytes: &[u8]) -> io::Result<()> {
     match kind {
-        b'p' => parse_case(stdout, bytes),
-        b'v' => varint_case(stdout, v as usize, bytes),
+        b'p' => parse_case(rt, bytes),
+        b'v' => varint_case(rt, v as usize, bytes),
         _ => {
             let mut out = [FILL; 512];
-            encode_case(stdout, v as usize, bytes, &mut out);
+            encode_case(rt, v as usize, bytes, &mut out)
         }
     }
 }
 
-fn case_with_bytes(stdout: Stdout, kind: u8, v: u64, word: &[u8]) {
-    let mut bytes = console::memory::buffer();
-    let r = console::input::read_bytes(word, &mut bytes);
-    let console::input::Bytes::Count(n) = r else {
-        text::bad_case(stdout);
-        return;
+fn case_with_bytes(rt: &impl Print, kind: u8, v: u64, word: &[u8]) -> io::Result<()> {
+    let mut bytes: [u8; 4096] = filled(0);
+    let Some(n) = read_bytes(word, &mut bytes) else {
+        return bad_case(rt);
     };
-    byte_case(stdout, kind, v, &bytes[..n]);
-}
-
-// What stands behind the blank at k: nothing where the line ends there.
-fn behind(line: &[u8], k: usize) -> &[u8] {
-    if line.len() <= k {
-        return &line[..0];
-    }
-    let start = k + 1;
-    &line[start..]
+    byte_case(rt, kind, v, &bytes[..n])
 }
 
 // A case that has a number, and then perhaps bytes.
-fn case_with_number(stdout: Stdout, kind: u8, rest: &[u8]) {
-    let k = console::input::find(rest, 0, b' ');
-    let r = console::input::read_number(&rest[..k]);
-    let console::input::Number::Value(v) = r else {
-        text::bad_case(stdout);
-        return;
+fn case_with_number(rt: &impl Print, kind: u8, rest: &[u8]) -> io::Result<()> {
+    let (number, bytes) = cut(rest, b' ');
+    let Some(v) = read_number(number) else {
+        return bad_case(rt);
     };
     match kind {
-        b'w' => put_case(stdout, v),
-        b'l' => length_case(stdout, v),
-        _ => case_with_bytes(stdout, kind, v, behind(rest, k)),
+        b'w' => put_case(rt, v),
+        b'l' => length_case(rt, v),
+        _ => case_with_bytes(rt, kind, v, bytes),
     }
 }
 
 // A line: a letter, and behind a blank its operands.
-fn case(stdout: Stdout, line: &[u8]) {
-    if line.len() == 0 {
-        text::bad_case(stdout);
-        return;
-    }
-    let kind = line[0];
+fn case(rt: &impl Print, line: &[u8]) -> io::Result<()> {
+    let Some(&kind) = line.first() else {
+        return bad_case(rt);
+    };
+    let (_, operands) = cut(line, b' ');
     match kind {
-        b'#' => {
-            console::output::print(stdout, line);
-            text::end_line(stdout);
-        }
-        b'p' => case_with_bytes(stdout, kind, 0, behind(line, 1)),
-        b'v' | b'w' | b'l' | b'e' => case_with_number(stdout, kind, behind(line, 1)),
-        _ => text::bad_case(stdout),
+        b'#' => print_line(rt, line),
+        b'p' => case_with_bytes(rt, kind, 0, operands),
+        b'v' | b'w' | b'l' | b'e' => case_with_number(rt, kind, operands),
+        _ => bad_case(rt),
     }
 }
 
-fn all_cases(stdout: Stdout, text: &[u8]) {
-    let mut at: usize = 0;
-    while at < text.len() {
-        let end = console::input::find(text, at, b'\n');
-        case(stdout, &text[at..end]);
-        at = end + 1;
+fn replay(rt: &impl Print, text: &[u8]) -> io::Result<()> {
+    for line in Pieces::new(text, b'\n') {
+        case(rt, line)?;
     }
+    Ok(())
 }
 
+// A write that fails leaves the output short, which a comparison shows. A `main` that answers it would rest on one more function of C.
 fn main(rt: HostRuntime) {
-    let mut buf = console::memory::large_buffer();
-    let n = console::input::read_cases(rt.stdin(), rt.stderr(), b"wire_cases", &mut buf);
-    all_cases(rt.stdout(), &buf[..n]);
+    let mut buf: [u8; 65536] = filled(0);
+    let n = read_cases(&mut rt.stdin(), &rt.stderr(), "wire_cases", &mut buf);
+    let _ = replay(&rt, &buf[..n]);
 }

@@ -2,4 +2,4 @@
 use Rattle.lists_cases.proofs.lower_case.Goals as goal
 
 pub lower_registers-requires : goal.lower_registers-requires
-lower_registers-requires c = c.lowers.ensures (c.if-not-lowers.false)
+lower_registers-requires g c = c.lowers.ensures (c.if-not-lowers.false)

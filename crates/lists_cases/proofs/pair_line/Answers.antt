@@ -2,4 +2,4 @@
 use Rattle.lists_cases.proofs.pair_line.Goals as goal
 
 pub new-requires : goal.new-requires
-new-requires c = c.fits.ensures (c.if-not-fits.false)
+new-requires g c = c.fits.ensures (c.if-not-fits.false)

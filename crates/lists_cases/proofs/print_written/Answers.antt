@@ -3,5 +3,5 @@ use mathlib.Core.Path.{sym}
 use lib.Seq.{length-take-le}
 use Rattle.lists_cases.proofs.print_written.Goals as goal
 
-pub slice_bounds-print_hex-end : goal.slice_bounds-print_hex-end
-slice_bounds-print_hex-end c = sym (length-take-le c.args.n c.args.out.now c.requires)
+pub slice_bounds-print-end : goal.slice_bounds-print-end
+slice_bounds-print-end g c = sym (length-take-le c.args.n c.args.out.now c.requires)

@@ -3,4 +3,4 @@ use mathlib.Core.Path.{sym, ◌∙◌}
 use Rattle.lists_cases.proofs.value_case.Goals as goal
 
 pub print_facts-requires : goal.print_facts-requires
-print_facts-requires c = sym c.is_valid-ok.ensures ∙ c.if-ok.true
+print_facts-requires g c = sym c.is_valid-ok.ensures ∙ c.if-ok.true

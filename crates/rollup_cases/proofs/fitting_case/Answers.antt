@@ -4,4 +4,4 @@ use Rattle.std.proofs.lemmas.Bool.{not_from_true}
 use Rattle.rollup_cases.proofs.fitting_case.Goals as goal
 
 pub add_fitting-r-requires : goal.add_fitting-r-requires
-add_fitting-r-requires c = record { fit = said_yes c.fits.ensures (not_from_true _ c.if-not-fits.false); known = never }
+add_fitting-r-requires g c = record { fit = said_yes c.fits.ensures (not_from_true _ c.if-not-fits.false); known = never }

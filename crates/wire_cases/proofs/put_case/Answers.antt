@@ -6,10 +6,10 @@ use Rattle.wire.proofs.VarintLaws.{len_le}
 use Rattle.wire_cases.proofs.put_case.Goals as goal
 
 pub put_varint-n-requires : goal.put_varint-n-requires
-put_varint-n-requires c = omega (arith, len_le 10 c.args.v)
+put_varint-n-requires g c = omega (arith, len_le 10 c.args.v)
 
 pub slice_bounds-out-end : goal.slice_bounds-out-end
-slice_bounds-out-end c = omega (arith, len_le 10 c.args.v, c.put_varint-n.ensures.next, c.put_varint-n.auto.out)
+slice_bounds-out-end g c = omega (arith, len_le 10 c.args.v, c.put_varint-n.ensures.next, c.put_varint-n.auto.out)
 
-pub slice_bounds-print_hex-end : goal.slice_bounds-print_hex-end
-slice_bounds-print_hex-end c = sym (length-take-le c.put_varint-n.result c.put_varint-n.new.out (omega (arith, len_le 10 c.args.v, c.put_varint-n.ensures.next, c.put_varint-n.auto.out)))
+pub slice_bounds-println-end : goal.slice_bounds-println-end
+slice_bounds-println-end g c = sym (length-take-le c.put_varint-n.result c.put_varint-n.new.out (omega (arith, len_le 10 c.args.v, c.put_varint-n.ensures.next, c.put_varint-n.auto.out)))

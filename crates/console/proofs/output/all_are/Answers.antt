@@ -1,23 +1,9 @@
-use mathlib.Core.Path.{refl, sym, ◌∙◌}
-use native.Mathlib.Omega.{arith}
 use borrow.Author.Rules.{rules}
-use Rattle.console.proofs.OutputLaws.{all_end, all_more, all_not}
+use borrow.Author.Tests.{tests}
+use lib.Dec.{eqb}
+use Rattle.std.proofs.lemmas.Iterator.{YieldsList-from_slice}
+use Rattle.std.proofs.lemmas.Iterator.Search.{all_from_yields_List}
 use Rattle.console.proofs.output.all_are.Goals as goal
 
-pub loop-i-init : goal.loop-i-init
-loop-i-init c = (refl, search rules)
-
-pub returns-then-s-i : goal.returns-then-s-i
-returns-then-s-i c =
-    let l = c.loop-i in
-    let o = c.args in
-    sym (l.invariant.0 ∙ all_not o.s.now o.b l.i c.loop-i-test.true c.if-s-i.true)
-
-pub loop-i-preserved : goal.loop-i-preserved
-loop-i-preserved c =
-    let l = c.loop-i in
-    let o = c.args in
-    (l.invariant.0 ∙ all_more o.s.now o.b l.i c.loop-i-test.true (search rules), omega arith)
-
 pub returns : goal.returns
-returns c = let l = c.loop-i in let o = c.args in sym (l.invariant.0 ∙ all_end o.s.now o.b l.i (search rules))
+returns c = all_from_yields_List (λ x. eqb x c.args.b) _ _ _ c.all.ensures.ran (YieldsList-from_slice c.args.s.now cc) (λ x b q k. search (rules, tests))

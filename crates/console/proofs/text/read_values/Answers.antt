@@ -1,29 +1,53 @@
-use mathlib.Core.Path.{refl}
-use Prim.Native.Nat.{◌-◌}
+use mathlib.Core.Path.{◌≡◌, refl, sym, ap, subst, ◌∙◌}
+use Prim.Native.Nat.{ℕ, ◌<◌}
 use native.Mathlib.Omega.{arith}
-use lib.ListN.{drop, length-set}
+use lib.ListN.{length, length-set}
+use Rattle.std.specs.Prelude.{Option}
+use Rattle.console.specs.declared.input.Pieces.{Pieces}
+use Rattle.console.specs.Input.{PieceOf}
+use Rattle.console.specs.Text.{ListedPost, values_in}
 use Rattle.console.proofs.InputLaws.{drop_next, refused_free}
-use Rattle.console.proofs.TextLaws.{front, values_start, values_full, values_other, values_turn, values_end, value_long}
-use borrow.Author.Rules.{rules}
+use Rattle.console.proofs.TextLaws.{front, values_start, values_full, values_other, values_turn, values_end, value_left}
 use Rattle.console.proofs.text.read_values.Goals as goal
 
-pub loop-at-init : goal.loop-at-init
-loop-at-init c = (omega arith, refl, values_start c.args.word.now c.args.out.now _, omega arith, refl)
+pub loop-piece-init : goal.loop-piece-init
+loop-piece-init c =
+    let s = c.into_iter-piece-iterator in
+    let e : s.result.rest.now ≡ c.args.word.now = ap (λ (i : Pieces). i.rest.now) s.ensures.into_iter_gives ∙ c.new-piece-items.ensures.0 in
+    (omega arith, refl, values_start c.args.word.now s.result.rest.now _ e, λ h. omega (arith, ap length e), refl, ap (λ (i : Pieces). i.end) s.ensures.into_iter_gives ∙ c.new-piece-items.ensures.1)
 
 pub returns-then-out-n : goal.returns-then-out-n
-returns-then-out-n c = (values_full c.args.word.now c.loop-at.out _ c.loop-at.n c.loop-at.at c.loop-at.invariant.2 c.loop-at-test.true (omega (arith, c.if-out-n.true, c.loop-at.invariant.1)), refused_free c.args.word.now _ _ c.loop-at.n (omega (arith, c.loop-at.invariant.3, c.loop-at-test.true)) c.loop-at.invariant.4 c.loop-at.invariant.1)
+returns-then-out-n c =
+    let l = c.loop-piece in
+    let rest = l.piece-iterator.rest.now in
+    let p : PieceOf 44 rest c.in-Some.piece.now c.next.new.self.rest.now = subst (λ (b : ℕ). PieceOf b rest c.in-Some.piece.now c.next.new.self.rest.now) l.invariant.5 c.in-Some.ensures.steps.1 in
+    (values_full l.out c.args.word.now rest _ l.n l.invariant.2 p.more (omega (arith, l.invariant.1)), refused_free c.args.word.now _ _ l.n (omega (arith, l.invariant.3 p.more)) l.invariant.4 l.invariant.1)
 
-pub slice_bounds-read_value-end : goal.slice_bounds-read_value-end
-slice_bounds-read_value-end c = c.find-end.ensures.inside (omega arith)
+pub returns-in_err-out : goal.returns-in_err-out
+returns-in_err-out c =
+    let l = c.loop-piece in
+    let rest = l.piece-iterator.rest.now in
+    let p : PieceOf 44 rest c.in-Some.piece.now c.next.new.self.rest.now = subst (λ (b : ℕ). PieceOf b rest c.in-Some.piece.now c.next.new.self.rest.now) l.invariant.5 c.in-Some.ensures.steps.1 in
+    subst (λ (r : Option ℕ). ListedPost (values_in (length c.args.out.now) c.args.word.now) c.args.word.now c.args.out.now r l.out) (sym c.from_residual.ensures)
+    (values_other l.out c.args.word.now rest _ l.n l.invariant.2 c.in-Some.piece.now c.next.new.self.rest.now p (omega (arith, l.invariant.1)) c.in_err-out.ensures, refused_free c.args.word.now _ _ l.n (omega (arith, l.invariant.3 p.more)) l.invariant.4 l.invariant.1)
 
-pub returns-in_default : goal.returns-in_default
-returns-in_default c = (values_other c.args.word.now c.loop-at.out _ c.loop-at.n c.loop-at.at c.loop-at.invariant.2 c.find-end.result c.read_value-r.result c.loop-at-test.true (omega (arith, c.if-out-n.false, c.loop-at.invariant.1)) c.find-end.ensures.place c.in_default.is c.read_value-r.ensures, refused_free c.args.word.now _ _ c.loop-at.n (omega (arith, c.loop-at.invariant.3, c.loop-at-test.true)) c.loop-at.invariant.4 c.loop-at.invariant.1)
-
-pub overflow_add-at : goal.overflow_add-at
-overflow_add-at c = omega (arith, c.find-end.ensures.inside (omega arith))
-
-pub loop-at-preserved : goal.loop-at-preserved
-loop-at-preserved c = (simp length-set (omega (arith, c.if-out-n.false)), simp length-set c.loop-at.invariant.1, values_turn c.args.word.now c.loop-at.out _ c.loop-at.n c.loop-at.at c.loop-at.invariant.2 c.find-end.result c.in-Is.v c.read_value-r.result c.loop-at-test.true (omega (arith, c.if-out-n.false, c.loop-at.invariant.1)) (omega (arith, c.if-out-n.false)) c.find-end.ensures.place c.in-Is.is c.read_value-r.ensures, omega (arith, c.loop-at.invariant.3, value_long (drop c.loop-at.at c.args.word.now) (c.find-end.result - c.loop-at.at) _ _ c.in-Is.is c.read_value-r.ensures), drop_next c.loop-at.out _ c.loop-at.n _ c.loop-at.invariant.4)
+pub loop-piece-preserved : goal.loop-piece-preserved
+loop-piece-preserved c =
+    let l = c.loop-piece in
+    let rest = l.piece-iterator.rest.now in
+    let next = c.next.new.self.rest.now in
+    let v = c.in_ok-out.field-0 in
+    let e = c.in_ok-out.ensures in
+    let p : PieceOf 44 rest c.in-Some.piece.now next = subst (λ (b : ℕ). PieceOf b rest c.in-Some.piece.now next) l.invariant.5 c.in-Some.ensures.steps.1 in (
+      simp length-set (omega (arith, c.if-out-n.false)),
+      simp length-set l.invariant.1,
+      values_turn l.out c.args.word.now rest _ l.n l.invariant.2 c.in-Some.piece.now next p (omega (arith, l.invariant.1)) (omega arith) v e,
+      (λ (h : 0 < length next). omega (arith, l.invariant.3 p.more, value_left rest c.in-Some.piece.now next v p e h)),
+      drop_next l.out _ l.n _ l.invariant.4,
+      c.in-Some.ensures.steps.0 ∙ l.invariant.5,
+    )
 
 pub returns : goal.returns
-returns c = (values_end c.args.word.now c.loop-at.out _ c.loop-at.n c.loop-at.at c.loop-at.invariant.2 (omega (arith, c.loop-at-test.false)), (c.loop-at.invariant.4, c.loop-at.invariant.1), front _ _ (search rules))
+returns c =
+    let l = c.loop-piece in
+    (values_end l.out c.args.word.now l.piece-iterator.rest.now _ l.n l.invariant.2 c.in-None.ensures.steps.1.0, (l.invariant.4, l.invariant.1), front l.n l.out (omega arith))

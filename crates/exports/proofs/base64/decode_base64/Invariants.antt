@@ -1,13 +1,10 @@
--- The first n bytes of `out`, then what the rest of the word reads as, are what the whole word reads as.
+-- The first bytes of `out`, then what the rest of the word reads as, are what the whole word reads as.
 use mathlib.Core.Path.{◌≡◌}
-use Prim.Native.Nat.{◌%◌, ◌-◌, ◌≤◌, ◌<◌}
+use Prim.Native.Nat.{◌*◌}
 use lib.ListN.{length, take, drop}
-use Rattle.exports.specs.Words.{ahead}
+use Rattle.console.specs.Input.{onto}
 use Rattle.exports.specs.Base64.{base64_of}
 use Rattle.exports.proofs.base64.decode_base64.Given as goal
 
-abbrev pub invariant-loop-at : goal.invariant-loop-at
-invariant-loop-at l = (base64_of l.word ≡ ahead (take l.n l.out) (base64_of (drop l.at l.word))) × (l.at % 4 ≡ 0) × (l.at < length l.word) × (l.n ≤ l.at) × (length l.out ≡ length l.initial.out) × (length l.word % 4 ≡ 0) × (length l.word ≤ length l.initial.out)
-
-abbrev pub decreases-loop-at : goal.decreases-loop-at
-decreases-loop-at l = length l.word - l.at
+abbrev pub invariant-loop-i : goal.invariant-loop-i
+invariant-loop-i l = (base64_of l.word ≡ onto (take (3 * l.i) l.out) (base64_of (drop (4 * l.i) l.word))) × (length l.out ≡ length l.initial.out)

@@ -1,18 +1,36 @@
 -- The last four characters, by how many of them are padding.
 use Prim.Native.Nat.{ℕ}
-use mathlib.Core.Path.{refl, subst}
+use mathlib.Core.Path.{◌≡◌, sym, ap, subst}
 use mathlib.Core.List.{List}
-use mathlib.Core.Option.{Option}
-use lib.ListN.{take}
-use Rattle.exports.specs.Words.{ahead, Decodes}
-use Rattle.exports.proofs.Base64Laws.{bits_of_lem, last_three, last_two, last_one}
+use lib.ListN.{take, drop}
+use Rattle.std.specs.Prelude.{Option, None}
+use Rattle.console.specs.Input.{onto}
+use Rattle.exports.specs.Words.{Decodes}
+use Rattle.exports.specs.Base64.{base64_of}
+use Rattle.exports.proofs.Base64Laws.{last_three, last_two, last_one}
 use Rattle.exports.proofs.base64.last_group.Goals as goal
 
+-- What is decided of the group's bits is decided of the word.
+by : (done word out : List ℕ) (at : ℕ) (r : Option ℕ) {d : Option (List ℕ)} → d ≡ base64_of (drop at word) → Decodes (onto done d) r out → Decodes (onto done (base64_of (drop at word))) r out
+by done word out at r e p = subst (λ (d : Option (List ℕ)). Decodes (onto done d) r out) e p
+
+none_by : (done word out : List ℕ) (at : ℕ) (r : Option ℕ) → None ≡ base64_of (drop at word) → r ≡ None → Decodes (onto done (base64_of (drop at word))) r out
+none_by done word out at r e f = subst (λ (x : Option ℕ). Decodes (onto done (base64_of (drop at word))) x out) (sym f) (sym (ap (onto done) e))
+
+pub returns-in_err-bits : goal.returns-in_err-bits
+returns-in_err-bits c = none_by (take c.args.n c.args.out.now) c.args.word.now c.args.out.now c.args.at _ (last_three c.args.word.now c.args.at c.requires.1 None c.if-fourth-ne61.true c.in_err-bits.ensures.value) c.from_residual.ensures
+
 pub returns-then-fourth-ne61 : goal.returns-then-fourth-ne61
-returns-then-fourth-ne61 c = subst (λ (d : Option (List ℕ)). Decodes (ahead (take c.args.n c.args.out.now) d) c.put_end.result c.put_end.new.out) (last_three c.args.word.now c.args.at c.requires.1 c.bits.result c.if-fourth-ne61.true (bits_of_lem _ _ _ _ c.sextet-a.result c.sextet-b.result c.sextet.result c.sextet-then-fourth-ne61.result c.bits.result c.sextet-a.ensures.value c.sextet-b.ensures.value c.sextet.ensures.value c.sextet-then-fourth-ne61.ensures.value c.bits.ensures)) c.put_end.ensures
+returns-then-fourth-ne61 c = by (take c.args.n c.args.out.now) c.args.word.now c.put_end.new.out c.args.at c.put_end.result (last_three c.args.word.now c.args.at c.requires.1 _ c.if-fourth-ne61.true c.in_ok-bits.ensures.value) c.put_end.ensures
+
+pub returns-in_err-bits-2 : goal.returns-in_err-bits-2
+returns-in_err-bits-2 c = none_by (take c.args.n c.args.out.now) c.args.word.now c.args.out.now c.args.at _ (last_two c.args.word.now c.args.at c.requires.1 None c.if-fourth-ne61.false c.if-third-ne61.true c.in_err-bits-2.ensures.value) c.from_residual-in_err-bits-2.ensures
 
 pub returns-then-third-ne61 : goal.returns-then-third-ne61
-returns-then-third-ne61 c = subst (λ (d : Option (List ℕ)). Decodes (ahead (take c.args.n c.args.out.now) d) c.put_end-then-third-ne61.result c.put_end-then-third-ne61.new.out) (last_two c.args.word.now c.args.at c.requires.1 c.bits-then-third-ne61.result c.if-fourth-ne61.false c.if-third-ne61.true (bits_of_lem _ _ _ _ c.sextet-a.result c.sextet-b.result c.sextet-then-third-ne61.result 0 c.bits-then-third-ne61.result c.sextet-a.ensures.value c.sextet-b.ensures.value c.sextet-then-third-ne61.ensures.value refl c.bits-then-third-ne61.ensures)) c.put_end-then-third-ne61.ensures
+returns-then-third-ne61 c = by (take c.args.n c.args.out.now) c.args.word.now c.put_end-then-third-ne61.new.out c.args.at c.put_end-then-third-ne61.result (last_two c.args.word.now c.args.at c.requires.1 _ c.if-fourth-ne61.false c.if-third-ne61.true c.in_ok-bits-2.ensures.value) c.put_end-then-third-ne61.ensures
+
+pub returns-in_err-bits-3 : goal.returns-in_err-bits-3
+returns-in_err-bits-3 c = none_by (take c.args.n c.args.out.now) c.args.word.now c.args.out.now c.args.at _ (last_one c.args.word.now c.args.at c.requires.1 None c.if-fourth-ne61.false c.if-third-ne61.false c.in_err-bits-3.ensures.value) c.from_residual-in_err-bits-3.ensures
 
 pub returns : goal.returns
-returns c = subst (λ (d : Option (List ℕ)). Decodes (ahead (take c.args.n c.args.out.now) d) c.put_end-2.result c.put_end-2.new.out) (last_one c.args.word.now c.args.at c.requires.1 c.bits-2.result c.if-fourth-ne61.false c.if-third-ne61.false (bits_of_lem _ _ _ _ c.sextet-a.result c.sextet-b.result 0 0 c.bits-2.result c.sextet-a.ensures.value c.sextet-b.ensures.value refl refl c.bits-2.ensures)) c.put_end-2.ensures
+returns c = by (take c.args.n c.args.out.now) c.args.word.now c.put_end-2.new.out c.args.at c.put_end-2.result (last_one c.args.word.now c.args.at c.requires.1 _ c.if-fourth-ne61.false c.if-third-ne61.false c.in_ok-bits-3.ensures.value) c.put_end-2.ensures

@@ -1,12 +1,9 @@
--- The bits count, those that are left over are 0, and the bytes stand behind the others.
-use Rattle.exports.proofs.Base64Laws.{end_none, end_over, end_put}
+-- The bits that are left over are 0, and the bytes stand behind the others.
+use Rattle.exports.proofs.Base64Laws.{end_over, end_put}
 use Rattle.exports.proofs.base64.put_end.Goals as goal
 
-pub returns-then-v-ge-NONE : goal.returns-then-v-ge-NONE
-returns-then-v-ge-NONE c = end_none c.args.out.now c.args.n c.args.v c.args.k c.args.unit c.if-v-ge-NONE.true
-
 pub returns-then-v-unit-ne0 : goal.returns-then-v-unit-ne0
-returns-then-v-unit-ne0 c = end_over c.args.out.now c.args.n c.args.v c.args.k c.args.unit c.if-v-ge-NONE.false c.if-v-unit-ne0.true
+returns-then-v-unit-ne0 c = end_over c.args.out.now c.args.n c.args.v c.args.k c.args.unit c.if-v-unit-ne0.true
 
 pub returns : goal.returns
-returns c = end_put c.args.out.now c.args.n c.args.v c.args.k c.args.unit c.if-v-ge-NONE.false _ c.requires.few c.requires.room_for c.if-v-unit-ne0.false c.put_three.ensures
+returns c = end_put c.args.out.now c.args.n c.args.v c.args.k c.args.unit _ c.requires.few c.requires.room_for c.if-v-unit-ne0.false c.put_three.ensures

@@ -1,38 +1,55 @@
 use native.Mathlib.Omega.{arith}
-use mathlib.Core.Path.{refl, ◌∙◌}
-use Prim.Native.Nat.{◌-◌}
+use mathlib.Core.Path.{◌≡◌, refl, sym, ap, subst, ◌∙◌}
+use Prim.Native.Nat.{ℕ}
+use lib.ListN.{length}
+use borrow.Author.Rules.{rules}
+use Rattle.std.specs.Prelude.{Result, Err}
 use Rattle.batch.proofs.PackingLaws.{open_behind}
+use Rattle.console.specs.declared.input.Pieces.{Pieces}
+use Rattle.console.specs.Input.{PieceOf}
+use Rattle.exports.specs.declared.packing.PackError.{PackError}
+use Rattle.exports.specs.Packing.{packing_of, PackedPost}
 use Rattle.exports.proofs.LineLaws.{word_short}
 use Rattle.exports.proofs.PackLaws.{packs_start, packs_turn, packs_refused, packs_end}
-use borrow.Author.Rules.{rules}
 use Rattle.exports.proofs.packing.pack.Goals as goal
 
-pub put_word-first-requires : goal.put_word-first-requires
-put_word-first-requires c = omega (arith, c.requires.room)
+pub loop-piece-init : goal.loop-piece-init
+loop-piece-init c =
+    let s = c.into_iter-piece-iterator in
+    let e : s.result.rest.now ≡ c.args.text.now = ap (λ (i : Pieces). i.rest.now) s.ensures.into_iter_gives ∙ c.new-piece-items.ensures.0 in
+    (packs_start c.args.text.now s.result.rest.now c.args.out.now _ c.put_word-first.result e c.requires.room c.put_word-first.ensures, refl, ap (λ (i : Pieces). i.end) s.ensures.into_iter_gives ∙ c.new-piece-items.ensures.1)
 
-pub loop-at-init : goal.loop-at-init
-loop-at-init c = (packs_start c.args.text.now c.args.out.now _ c.put_word-first.result c.requires.room c.put_word-first.ensures, refl, c.requires.spare_room)
+pub overflow_add-n : goal.overflow_add-n
+overflow_add-n c = omega (arith, c.loop-piece.invariant.0.counted, c.in-Some.ensures.steps.1.more)
 
-pub slice_bounds-trim-end : goal.slice_bounds-trim-end
-slice_bounds-trim-end c = c.find-stop.ensures.inside (omega arith)
+pub pack_line-requires : goal.pack_line-requires
+pack_line-requires c =
+    let l = c.loop-piece in
+    let p : PieceOf 10 l.piece-iterator.rest.now c.in-Some.piece.now c.next.new.self.rest.now = subst (λ (b : ℕ). PieceOf b l.piece-iterator.rest.now c.in-Some.piece.now c.next.new.self.rest.now) l.invariant.2 c.in-Some.ensures.steps.1 in
+    record {
+      behind = open_behind l.invariant.0.opened;
+      inside = l.invariant.0.inside;
+      room = omega (arith, word_short l.piece-iterator.rest.now c.in-Some.piece.now c.next.new.self.rest.now c.trim.result.now p c.trim.ensures, l.invariant.0.counted, l.invariant.1, c.requires.spare_room);
+    }
 
-pub pack_word-r-requires : goal.pack_word-r-requires
-pack_word-r-requires c = record { behind = open_behind c.loop-at.invariant.0.opened; inside = c.loop-at.invariant.0.inside; room = omega (arith, word_short c.args.text.now c.trim-word.result.now c.loop-at.at (c.find-stop.result - c.loop-at.at) c.trim-word.ensures, c.loop-at.invariant.1, c.loop-at.invariant.2) }
+pub returns-in_err-p : goal.returns-in_err-p
+returns-in_err-p c =
+    let l = c.loop-piece in
+    let p : PieceOf 10 l.piece-iterator.rest.now c.in-Some.piece.now c.next.new.self.rest.now = subst (λ (b : ℕ). PieceOf b l.piece-iterator.rest.now c.in-Some.piece.now c.next.new.self.rest.now) l.invariant.2 c.in-Some.ensures.steps.1 in
+    let post = packs_refused c.args.text.now c.put_word-first.new.out l.out l.p l.piece-iterator.rest.now l.n l.invariant.0 c.in-Some.piece.now c.next.new.self.rest.now c.trim.result.now p c.trim.ensures c.args.out.now c.args.spare.now c.pack_line.new.spare c.put_word-first.result c.put_word-first.ensures (c.pack_line.auto.spare ∙ l.invariant.1) in
+    let same : c.from_residual.result ≡ Err c.in_err-p.field-0.0 = search rules in
+    subst (λ (r : Result ℕ PackError). PackedPost (packing_of (length c.args.out.now) c.args.text.now) c.args.spare.now c.args.out.now r c.pack_line.new.spare c.pack_line.new.out) (sym same)
+    (post c.in_err-p.field-0.0 c.pack_line.new.out c.in_err-p.ensures)
 
-pub overflow_add-line : goal.overflow_add-line
-overflow_add-line c = omega (arith, c.loop-at.invariant.0.counted, c.loop-at-test.true)
-
-pub returns-in_default : goal.returns-in_default
-returns-in_default c = packs_refused c.args.text.now c.put_word-first.new.out c.loop-at.out c.loop-at.p c.loop-at.at c.loop-at.line c.loop-at.invariant.0 c.find-stop.result c.trim-word.result.now c.loop-at-test.true c.find-stop.ensures.place c.trim-word.ensures c.args.out.now c.args.spare.now c.pack_word-r.new.spare c.put_word-first.result c.put_word-first.ensures (c.pack_word-r.auto.spare ∙ c.loop-at.invariant.1) c.pack_word-r.result c.refused.result c.pack_word-r.new.out c.in_default.not-Next c.refused.ensures c.pack_word-r.ensures
-
-pub overflow_add-at : goal.overflow_add-at
-overflow_add-at c = omega (arith, c.find-stop.ensures.inside (omega arith))
-
-pub loop-at-smaller : goal.loop-at-smaller
-loop-at-smaller c = omega (arith, c.find-stop.ensures.from, c.loop-at-test.true)
-
-pub loop-at-preserved : goal.loop-at-preserved
-loop-at-preserved c = (packs_turn c.args.text.now c.put_word-first.new.out c.loop-at.out c.loop-at.p c.loop-at.at c.loop-at.line c.loop-at.invariant.0 c.find-stop.result c.trim-word.result.now c.loop-at-test.true c.find-stop.ensures.place c.trim-word.ensures c.pack_word-r.result c.pack_word-r.new.out c.in-Next.q c.pack_word-r.auto.out c.in-Next.is c.pack_word-r.ensures, c.pack_word-r.auto.spare ∙ c.loop-at.invariant.1, c.loop-at.invariant.2)
+pub loop-piece-preserved : goal.loop-piece-preserved
+loop-piece-preserved c =
+    let l = c.loop-piece in
+    let p : PieceOf 10 l.piece-iterator.rest.now c.in-Some.piece.now c.next.new.self.rest.now = subst (λ (b : ℕ). PieceOf b l.piece-iterator.rest.now c.in-Some.piece.now c.next.new.self.rest.now) l.invariant.2 c.in-Some.ensures.steps.1 in (
+      packs_turn c.args.text.now c.put_word-first.new.out l.out l.p l.piece-iterator.rest.now l.n l.invariant.0 c.in-Some.piece.now c.next.new.self.rest.now c.trim.result.now p c.trim.ensures c.in_ok-p.p c.pack_line.new.out c.pack_line.auto.out c.in_ok-p.ensures,
+      c.pack_line.auto.spare ∙ l.invariant.1,
+      c.in-Some.ensures.steps.0 ∙ l.invariant.2,
+    )
 
 pub returns : goal.returns
-returns c = packs_end c.args.text.now c.args.out.now c.args.spare.now c.loop-at.spare c.put_word-first.new.out c.put_word-first.result c.put_word-first.ensures c.loop-at.invariant.1 c.loop-at.out c.loop-at.p c.loop-at.at c.loop-at.line c.loop-at.invariant.0 (search rules)
+returns c = let l = c.loop-piece in
+    packs_end c.args.text.now c.args.out.now c.args.spare.now l.spare c.put_word-first.new.out c.put_word-first.result c.put_word-first.ensures l.invariant.1 l.out l.p l.piece-iterator.rest.now l.n l.invariant.0 c.in-None.ensures.steps.1.0

@@ -1,17 +1,18 @@
 -- The text, or what is wrong with the batch (`text_said`, `message_said`).
-use mathlib.Core.Path.{refl}
+use mathlib.Core.Path.{refl, ap, ◌∙◌}
+use Rattle.std.specs.Prelude.{Err}
 use native.Mathlib.Omega.{arith}
 use Rattle.exports.proofs.ReplyLaws.{text_said, message_said, broken_records}
 use Rattle.exports.proofs.replies.unpack_batch.Goals as goal
 
 pub complain_of_chain-requires : goal.complain_of_chain-requires
-complain_of_chain-requires c = (broken_records c.requires.1 c.unpack-r.ensures c.in-Broken.records c.in-Broken.ending c.in-Broken.is, omega (arith, c.requires.1, c.unpack-r.auto.text))
+complain_of_chain-requires c = (broken_records c.requires.1 c.unpack.ensures c.in-Err-Broken.records c.in-Err-Broken.ending (c.in-Err-Broken.is ∙ ap Err c.in-Err-Broken.field-0-is), omega (arith, c.requires.1, c.unpack.auto.text))
 
-pub returns-in-Text : goal.returns-in-Text
-returns-in-Text c = text_said c.requires.1 c.unpack-r.ensures c.in-Text.n c.unpack-r.auto.indices c.in-Text.is
+pub returns-in-Ok : goal.returns-in-Ok
+returns-in-Ok c = text_said c.requires.1 c.unpack.ensures c.in-Ok.n c.unpack.auto.indices c.in-Ok.is
 
-pub returns-in-Broken : goal.returns-in-Broken
-returns-in-Broken c = message_said c.requires.1 c.unpack-r.ensures c.unpack-r.auto.indices c.in-Broken.is refl refl c.complain_of_chain.ensures
+pub returns-in-Err-Broken : goal.returns-in-Err-Broken
+returns-in-Err-Broken c = message_said c.requires.1 c.unpack.ensures c.unpack.auto.indices (c.in-Err-Broken.is ∙ ap Err c.in-Err-Broken.field-0-is) refl refl c.complain_of_chain.ensures
 
-pub returns-in-Long : goal.returns-in-Long
-returns-in-Long c = message_said c.requires.1 c.unpack-r.ensures c.unpack-r.auto.indices c.in-Long.is refl refl c.complain.ensures
+pub returns-in-Err-TooLong : goal.returns-in-Err-TooLong
+returns-in-Err-TooLong c = message_said c.requires.1 c.unpack.ensures c.unpack.auto.indices (c.in-Err-TooLong.is ∙ ap Err c.in-Err-TooLong.field-0-is) refl refl c.complain.ensures

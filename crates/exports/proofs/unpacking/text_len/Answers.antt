@@ -7,14 +7,10 @@ use Rattle.wire.proofs.EncodingLaws.{two_length}
 use Rattle.batch.proofs.UnpackingLaws.{state_short}
 use Rattle.exports.specs.Text.{line_of}
 use Rattle.exports.proofs.UnpackLaws.{line_length, text_none, lines_next, lines_all}
-use borrow.Author.Rules.{rules}
 use Rattle.exports.proofs.unpacking.text_len.Goals as goal
 
-pub loop-k-init : goal.loop-k-init
-loop-k-init c = (sym (ap (λ (l : List ℕ). length l) text_none), omega arith, c.requires.0, c.requires.1)
-
-pub overflow_cast-at : goal.overflow_cast-at
-overflow_cast-at c = omega (arith, c.type_inv.indices c.loop-k.k)
+pub loop-index-init : goal.loop-index-init
+loop-index-init c = (sym (ap (λ (l : List ℕ). length l) text_none), omega arith)
 
 pub overflow_mul-n : goal.overflow_mul-n
 overflow_mul-n c = omega (arith, state_short c.args.batch.now c.state_at-state.result.now _ c.state_at-state.ensures)
@@ -22,17 +18,17 @@ overflow_mul-n c = omega (arith, state_short c.args.batch.now c.state_at-state.r
 pub overflow_add-n : goal.overflow_add-n
 overflow_add-n c = omega (arith, state_short c.args.batch.now c.state_at-state.result.now _ c.state_at-state.ensures)
 
-pub overflow_add-n-in-loop-k : goal.overflow_add-n-in-loop-k
-overflow_add-n-in-loop-k c = omega (arith, state_short c.args.batch.now c.state_at-state.result.now _ c.state_at-state.ensures)
+pub overflow_add-n-in-loop-index : goal.overflow_add-n-in-loop-index
+overflow_add-n-in-loop-index c = omega (arith, state_short c.args.batch.now c.state_at-state.result.now _ c.state_at-state.ensures)
 
-pub loop-k-preserved : goal.loop-k-preserved
-loop-k-preserved c = let o = c.args in
-    let l = c.loop-k in
+pub loop-index-preserved : goal.loop-index-preserved
+loop-index-preserved c = let o = c.args in
+    let l = c.loop-index in
     let state = c.state_at-state.result.now in
     let short : length state ≤ length o.batch.now = state_short o.batch.now state _ c.state_at-state.ensures in
-    let more = two_length (lines_next o.batch.now o.indices.now l.k c.loop-k-test.true) in
+    let more = two_length (lines_next o.batch.now o.indices.now l.index-index c.loop-index-test.true) in
     let line = sym (ap (λ (s : List ℕ). length (line_of s)) c.state_at-state.ensures) ∙ line_length state in
-    (omega (arith, more, line, l.invariant.0), omega (arith, short, l.invariant.1, l.invariant.2), l.invariant.2, l.invariant.3)
+    (omega (arith, more, line, l.invariant.0), omega (arith, short, l.invariant.1))
 
 pub returns : goal.returns
-returns c = c.loop-k.invariant.0 ∙ ap (λ (l : List ℕ). length l) (lines_all c.args.batch.now c.args.indices.now c.loop-k.k (search rules))
+returns c = c.loop-index.invariant.0 ∙ ap (λ (l : List ℕ). length l) (lines_all c.args.batch.now c.args.indices.now c.loop-index.index-index (omega arith))

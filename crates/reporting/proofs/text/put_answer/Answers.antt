@@ -1,12 +1,10 @@
 -- `put_answer` meets its contract: two numbers, the second behind the first.
-use native.Mathlib.Omega.{arith}
-use Rattle.wire.proofs.EncodingLaws.{put_both}
-use Rattle.reporting.proofs.NumberLaws.{number_length}
+use mathlib.Core.Path.{ap}
+use Prim.Native.Nat.{ℕ}
+use Rattle.wire.proofs.EncodingLaws.{put_both, put_same}
+use Rattle.reporting.specs.Numbers.{number_text}
 use Rattle.reporting.proofs.TextLaws.{answer_is}
 use Rattle.reporting.proofs.text.put_answer.Goals as goal
 
-pub put_number-requires : goal.put_number-requires
-put_number-requires c = omega (arith, c.put_number-next.ensures.next, c.put_number-next.auto.text, number_length c.args.ordinal 32)
-
-pub returns : goal.returns
-returns c = put_both (answer_is c.args.ordinal c.args.answer) c.put_number-next.ensures c.put_number.ensures
+pub returns-clause-put : goal.returns-clause-put
+returns-clause-put c = put_both (answer_is c.args.ordinal c.args.answer) c.put_number-next.ensures.put (put_same (ap (λ (v : ℕ). number_text v 10) c.from.ensures) c.put_number.ensures.put)

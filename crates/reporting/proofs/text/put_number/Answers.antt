@@ -1,8 +1,11 @@
--- `put_number` meets its contract: the digits are those of `console::output::signed`, and the byte stands behind them.
-use Prim.Native.Nat.{◌+◌, ◌-◌}
+-- `put_number` meets its contract: the digits of the signed number, and the byte behind them.
+use mathlib.Core.Path.{◌∙◌}
 use native.Mathlib.Omega.{arith}
-use Rattle.reporting.proofs.TextLaws.{number_put}
+use borrow.Author.Rules.{rules}
+use Rattle.wire.proofs.EncodingLaws.{put_both, put_same}
+use Rattle.reporting.proofs.NumberLaws.{signed_bits, signed_length, number_is}
 use Rattle.reporting.proofs.text.put_number.Goals as goal
 
-pub returns : goal.returns
-returns c = number_put c.args.text.now c.signed.new.out c.args.at c.args.v c.args.end c.signed.result (c.args.at + 21 - c.args.at) c.requires (omega arith) (omega arith) c.signed.ensures
+pub returns-clause-put : goal.returns-clause-put
+returns-clause-put c = let size = signed_length c.args.v (omega arith) in
+    put_both (number_is c.args.v c.args.end) (put_same (search rules ∙ signed_bits c.args.v (omega arith)) c.put_bytes-next.ensures) c.put_bytes.ensures

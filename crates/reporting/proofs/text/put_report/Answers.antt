@@ -2,12 +2,11 @@
 use mathlib.Core.Path.{sym}
 use Prim.Native.Nat.{◌≤◌}
 use native.Mathlib.Omega.{arith}
-use lib.ListN.{length, take}
+use lib.ListN.{length}
 use lib.Seq.{length-take-le}
 use Rattle.wire.proofs.EncodingLaws.{put_both}
-use Rattle.reporting.proofs.TextLaws.{ending_length, numbers_length, state_length, report_are}
+use Rattle.reporting.proofs.TextLaws.{report_are}
 use Rattle.reporting.proofs.text.put_report.Goals as goal
-use Rattle.rollup.specs.Refusals.{answer_of, length_of}
 
 pub slice_bounds-put_answers-end-2 : goal.slice_bounds-put_answers-end-2
 slice_bounds-put_answers-end-2 c = sym (length-take-le c.args.r.rolled.records c.args.answers.now c.requires.records_in)
@@ -25,16 +24,15 @@ put_ending-chain-requires c =
     (omega (arith, c.put_answers-lines.ensures.1), omega arith)
 
 pub put_numbers-numbers-requires : goal.put_numbers-numbers-requires
-put_numbers-numbers-requires c = omega (arith, c.put_answers-lines.ensures.1, length-take-le c.args.r.rolled.records c.args.answers.now c.requires.records_in, c.requires.records_few, c.put_ending-chain.ensures.next, ending_length c.args.r.rolled.ending c.args.r.rolled.records)
+put_numbers-numbers-requires c = omega (arith, c.put_answers-lines.ensures.1, length-take-le c.args.r.rolled.records c.args.answers.now c.requires.records_in, c.requires.records_few, c.put_ending-chain.ensures.room)
 
 pub put_state-requires : goal.put_state-requires
-put_state-requires c = (c.requires.written_in, omega (arith, c.put_answers-lines.ensures.1, length-take-le c.args.r.rolled.records c.args.answers.now c.requires.records_in, c.requires.records_few, c.put_ending-chain.ensures.next, ending_length c.args.r.rolled.ending c.args.r.rolled.records, c.put_numbers-numbers.ensures.next, numbers_length c.args.r.rolled.head c.args.r.not_zero, c.requires.written_few))
+put_state-requires c = (c.requires.written_in, omega (arith, c.put_answers-lines.ensures.1, length-take-le c.args.r.rolled.records c.args.answers.now c.requires.records_in, c.requires.records_few, c.put_ending-chain.ensures.room, c.put_numbers-numbers.ensures.room, c.requires.written_few))
 
 pub returns : goal.returns
 returns c = let r = c.args.r in
     let f = report_are r c.args.answers.now c.args.out.now in
-    let state = take (length_of r.written) c.args.out.now in
-    let fits : c.put_state.result ≤ length c.put_state.new.text = omega (arith, c.put_state.auto.text, c.put_answers-lines.ensures.1, length-take-le r.rolled.records c.args.answers.now c.requires.records_in, c.requires.records_few, c.put_ending-chain.ensures.next, ending_length r.rolled.ending r.rolled.records, c.put_numbers-numbers.ensures.next, numbers_length r.rolled.head r.not_zero, c.put_state.ensures.next, state_length (answer_of r.written) state, length-take-le (length_of r.written) c.args.out.now c.requires.written_in, c.requires.written_few) in (
-      put_both f.first c.put_answers-lines.ensures.0 (put_both f.second c.put_ending-chain.ensures (put_both f.third c.put_numbers-numbers.ensures c.put_state.ensures)),
+    let fits : c.put_state.result ≤ length c.put_state.new.text = omega (arith, c.put_state.auto.text, c.put_answers-lines.ensures.1, length-take-le r.rolled.records c.args.answers.now c.requires.records_in, c.requires.records_few, c.put_ending-chain.ensures.room, c.put_numbers-numbers.ensures.room, c.put_state.ensures.room, c.requires.written_few) in (
+      put_both f.first c.put_answers-lines.ensures.0 (put_both f.second c.put_ending-chain.ensures.put (put_both f.third c.put_numbers-numbers.ensures.put c.put_state.ensures.put)),
       (fits, sym (length-take-le c.put_state.result c.put_state.new.text fits)),
     )

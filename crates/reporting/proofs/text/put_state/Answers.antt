@@ -1,6 +1,7 @@
 -- `put_state` meets its contract: the bytes in hexadecimal with a newline behind them, or a number.
 use Prim.Native.Nat.{ℕ, ◌-◌}
 use mathlib.Core.Path.{refl, sym, ap, ◌∙◌}
+use Rattle.reporting.specs.Numbers.{number_text}
 use native.Mathlib.Omega.{arith}
 use lib.ListN.{length, take}
 use lib.Seq.{length-take-le}
@@ -31,8 +32,8 @@ bounds-text-end c =
     let h : c.in-Ok.len ≤ length c.args.out.now = omega (arith, e, c.requires.0) in
     omega (arith, length-take-le c.in-Ok.len c.args.out.now h, hex_room c.hex.ensures, c.requires.1, e)
 
-pub returns-in-Ok : goal.returns-in-Ok
-returns-in-Ok c =
+pub returns-in-Ok-clause-put : goal.returns-in-Ok-clause-put
+returns-in-Ok-clause-put c =
     let t = c.args.text.now in
     let s = take c.in-Ok.len c.args.out.now in
     let e = ap length_of c.in-Ok.is in
@@ -40,9 +41,16 @@ returns-in-Ok c =
     put_same (state_written s refl ∙ ap (λ (w : Result ℕ Refusal). state_text (answer_of w) (take (length_of w) c.args.out.now)) (sym c.in-Ok.is))
     (hex_put t c.hex.new.out s c.args.at c.hex.result (length t - c.args.at) (omega arith) (omega (arith, length-take-le c.in-Ok.len c.args.out.now h, e, c.requires.1)) c.hex.ensures)
 
-pub returns-in-Err : goal.returns-in-Err
-returns-in-Err c =
+pub returns-in-Err-clause-put : goal.returns-in-Err-clause-put
+returns-in-Err-clause-put c =
     put_same
-    (state_refused (take 0 c.args.out.now) (λ (z : c.number.result ≡ 0). number_some c.in-Err.e (sym c.number.ensures ∙ z))
+    (ap (λ (v : ℕ). number_text v 10) c.from.ensures
+    ∙ state_refused (take 0 c.args.out.now) (λ (z : c.number.result ≡ 0). number_some c.in-Err.e (sym c.number.ensures ∙ z))
     ∙ ap (λ (n : ℕ). state_text n (take 0 c.args.out.now)) c.number.ensures
-    ∙ ap (λ (w : Result ℕ Refusal). state_text (answer_of w) (take (length_of w) c.args.out.now)) (sym c.in-Err.is)) c.put_number.ensures
+    ∙ ap (λ (w : Result ℕ Refusal). state_text (answer_of w) (take (length_of w) c.args.out.now)) (sym c.in-Err.is)) c.put_number.ensures.put
+
+pub returns-in-Ok-clause-room : goal.returns-in-Ok-clause-room
+returns-in-Ok-clause-room c =
+    let e = ap length_of c.in-Ok.is in
+    let h : c.in-Ok.len ≤ length c.args.out.now = omega (arith, e, c.requires.0) in
+    omega (arith, length-take-le c.in-Ok.len c.args.out.now h, hex_room c.hex.ensures, e)

@@ -1,7 +1,0 @@
--- `print_written` is safe: the count lies inside the output.
-use mathlib.Core.Path.{sym}
-use lib.Seq.{length-take-le}
-use Rattle.wire_cases.proofs.print_written.Goals as goal
-
-pub slice_bounds-print_hex-end : goal.slice_bounds-print_hex-end
-slice_bounds-print_hex-end c = sym (length-take-le c.args.n c.args.out.now c.requires)
