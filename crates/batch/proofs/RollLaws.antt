@@ -83,6 +83,9 @@ pub record Going (batch : List ℕ) (first : Mem) (room : ℕ) (rest : Chain) (k
   pub run : Run first (added_all room (map (state_at batch) done) (take k answers) []) a m
   pub free : Free first m
 
+pub same_cells : (m : Mem) → Free m m
+same_cells m = record { registers = refl; sparse = refl; pending = refl }
+
 pub going_start : {batch : List ℕ} {rest : Chain} {k : ℕ} {a : Accumulator} (m : Mem) (room : ℕ) (old : List ℕ) → a ≡ fresh → k ≡ 0 → chain_of batch ≡ rest
     → Going batch m room rest k a m old old
 unfolding added_all
@@ -95,7 +98,7 @@ going_start m room old f none e =
       long = refl;
       untouched = refl;
       run = subst (λ (h : Accumulator). Run m [] h m) (sym f) begun;
-      free = record { registers = refl; sparse = refl; pending = refl };
+      free = same_cells m;
     }
 
 module _ {batch : List ℕ} {first : Mem} {room : ℕ} {rest : Chain} {k : ℕ} {a : Accumulator} {m : Mem} {old answers : List ℕ}

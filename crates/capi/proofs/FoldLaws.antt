@@ -1,13 +1,13 @@
 -- Adding many states: the ends that fit, the walk over the states so far with what is left of the ends, and the fold of a head that is a row.
 use Prim.Native.Nat.{ℕ, suc, ◌+◌, ◌-◌, ◌<◌, ◌≤◌}
-use mathlib.Core.Path.{◌≡◌, refl, sym, ap, ap₂, ◌∙◌, subst}
+use mathlib.Core.Path.{◌≡◌, refl, sym, ap, ◌∙◌, subst}
 use mathlib.Core.List.{List, [], ◌∷◌, ◌++◌, append_assoc, append-nil}
-use mathlib.Core.Bool.{Bool, true, false, cond, ◌&&◌, and_assoc, true≢false}
+use mathlib.Core.Bool.{Bool, true, false, cond}
 use native.Mathlib.Omega.{arith}
 use lib.Dec.{leb}
 use lib.ListN.{length, get_or, take, drop, set, length-set, length-append, drop_of_length-le}
 use lib.Seq.{take_all, take-suc-set, drop-cons, drop-set-lt, drop-drop, length-take-le}
-use borrow.Author.Tests.{le-leb, lt-leb, leb-true}
+use borrow.Author.Tests.{le-leb, leb-true}
 use Rattle.wire.proofs.BoolLaws.{both, both_true}
 use Rattle.rollup.specs.declared.accumulator.Accumulator.{Accumulator}
 use Rattle.rollup.specs.Accumulator.{Mem, fits}
@@ -17,26 +17,10 @@ use Rattle.rollup.specs.Calls.{Call, added, Steps, begun, adding, Run}
 use Rattle.rollup.proofs.AddLaws.{add_unfit, refused_post}
 use Rattle.rollup.proofs.ViewLaws.{add_keeps, steps_after}
 use Rattle.batch.specs.Batch.{added_all}
-use Rattle.batch.proofs.ChainLaws.{added_last, added_after, same_cells}
-use Rattle.capi.specs.Heads.{is_head, head_in, with_head}
-use Rattle.capi.specs.Folds.{between, splits, ends_fit, fold_fits, FoldedPre, FoldedPost, FoldPost, FoldGoesOn, fold_answer, FoldRowPost}
-use Rattle.capi.proofs.CallLaws.{Found}
+use Rattle.batch.proofs.RollLaws.{added_last, added_after, same_cells}
+use Rattle.capi.specs.Folds.{between, splits, ends_fit, fold_fits, FoldedPre, FoldedPost, FoldPost, FoldGoesOn}
 
 -- ---- ends that fit
-
--- What was found so far and whether the rest fits from the last end on make the whole.
-module _ (size start : ℕ) (all : Bool) where
-  pub ends_turn : (ends : List ℕ) (i : ℕ) → i < length ends
-      → all && ends_fit size start (drop i ends) ≡ (all && leb start (get_or ends i 0)) && ends_fit size (get_or ends i 0) (drop (i + 1) ends)
-  unfolding ends_fit
-  ends_turn ends i h =
-      ap (λ (l : List ℕ). all && ends_fit size start l)
-      (drop-cons ends i 0 h ∙ ap (λ (k : ℕ). get_or ends i 0 ∷ drop k ends) (let e : suc i ≡ i + 1 = omega arith in e))
-      ∙ sym (and_assoc all (leb start (get_or ends i 0)) (ends_fit size (get_or ends i 0) (drop (i + 1) ends)))
-
-  pub ends_end : (ends : List ℕ) (i : ℕ) → length ends ≤ i → all && ends_fit size start (drop i ends) ≡ (all && leb start size)
-  unfolding ends_fit
-  ends_end ends i h = ap (λ (l : List ℕ). all && ends_fit size start l) (drop_of_length-le ends {i = i} h)
 
 -- Each is not before the last one.
 ends_next : (size start end : ℕ) (ends : List ℕ) → ends_fit size start (end ∷ ends) ≡ true → (start ≤ end) × (ends_fit size end ends ≡ true)
@@ -57,13 +41,6 @@ ends_inside size start (end ∷ ends) e =
 ends_one : (size : ℕ) → ends_fit size 0 (size ∷ []) ≡ true
 unfolding ends_fit
 ends_one size = both (le-leb 0 size (omega arith)) (le-leb size size (omega arith))
-
-module _ (bytes ends answers : List ℕ) where
-  pub too_few : length answers < length ends → false ≡ fold_fits bytes ends answers
-  too_few h = sym (ap (λ (t : Bool). t && ends_fit (length bytes) 0 ends) (lt-leb (length ends) (length answers) h))
-
-  pub enough : length ends ≤ length answers → (r : Bool) → r ≡ ends_fit (length bytes) 0 ends → r ≡ fold_fits bytes ends answers
-  enough h r e = e ∙ sym (ap (λ (t : Bool). t && ends_fit (length bytes) 0 ends) (le-leb (length ends) (length answers) h))
 
 -- ---- the calls
 
@@ -99,10 +76,9 @@ pub record Folding (a : Accumulator) (m : Mem) (room : ℕ) (bytes ends before :
   pub steps : Steps a m (added_all room done (take i answers) []) h n
   pub free : Free m n
 
-pub fold_start : (a : Accumulator) (m : Mem) (room : ℕ) (bytes ends before : List ℕ) → FoldedPre a m bytes ends before
-    → Folding a m room bytes ends before 0 0 a m before
+pub fold_start : {a : Accumulator} (m : Mem) (room : ℕ) {bytes ends before : List ℕ} → FoldedPre a m bytes ends before → Folding a m room bytes ends before 0 0 a m before
 unfolding added_all
-fold_start a m room bytes ends before pre =
+fold_start m room pre =
     record {
       done = [];
       count = refl;
@@ -117,29 +93,25 @@ fold_start a m room bytes ends before pre =
       free = same_cells m;
     }
 
-module _ (a : Accumulator) (m : Mem) (room : ℕ) (bytes ends before : List ℕ) (start i : ℕ) (h : Accumulator) (n : Mem) (answers : List ℕ)
+module _ {a : Accumulator} {m : Mem} {room : ℕ} {bytes ends before : List ℕ} {start i : ℕ} {h : Accumulator} {n : Mem} {answers : List ℕ}
     (g : Folding a m room bytes ends before start i h n answers) where
-  module _ (end : ℕ) (inside : i < length ends) (e : end ≡ get_or ends i 0) where
-    rest : drop i ends ≡ end ∷ drop (i + 1) ends
-    rest =
-        drop-cons ends i 0 inside
-        ∙ ap₂ (λ (x : ℕ) (y : List ℕ). x ∷ y) (sym e) (ap (λ (k : ℕ). drop k ends) (let one : suc i ≡ i + 1 = omega arith in one))
+  module _ (inside : i < length ends) where
+    rest : drop i ends ≡ get_or ends i 0 ∷ drop (i + 1) ends
+    rest = drop-cons ends i 0 inside ∙ ap (λ (k : ℕ). get_or ends i 0 ∷ drop k ends) (let one : suc i ≡ i + 1 = omega arith in one)
 
-    next : (start ≤ end) × (ends_fit (length bytes) end (drop (i + 1) ends) ≡ true)
+    next : (start ≤ get_or ends i 0) × (ends_fit (length bytes) (get_or ends i 0) (drop (i + 1) ends) ≡ true)
     next =
-        ends_next (length bytes) start end (drop (i + 1) ends)
+        ends_next (length bytes) start (get_or ends i 0) (drop (i + 1) ends)
         (subst (λ (l : List ℕ). ends_fit (length bytes) start l ≡ true) rest g.cut)
 
     -- The state is in the bytes.
-    pub state_from : start ≤ end
-    state_from = next.0
+    pub state_in : (start ≤ get_or ends i 0) × (get_or ends i 0 ≤ length bytes)
+    state_in = (next.0, ends_inside (length bytes) (get_or ends i 0) (drop (i + 1) ends) next.1)
 
-    pub state_to : end ≤ length bytes
-    state_to = ends_inside (length bytes) end (drop (i + 1) ends) next.1
-
-    pub fold_turn : (answer : ℕ) (to : Accumulator) (l : Mem) → AddPost h n room (between bytes start end) answer to l
-        → Folding a m room bytes ends before end (i + 1) to l (set answers i answer)
-    fold_turn answer to l post =
+    pub fold_turn : {answer : ℕ} {to : Accumulator} {l : Mem} → AddPost h n room (between bytes start (get_or ends i 0)) answer to l
+        → Folding a m room bytes ends before (get_or ends i 0) (i + 1) to l (set answers i answer)
+    fold_turn {answer} {to} {l} post =
+        let end = get_or ends i 0 in
         let room_here : i < length answers = omega (arith, g.cells, g.room_left) in
         let put : take (i + 1) (set answers i answer) ≡ take i answers ++ answer ∷ [] =
         ap (λ (k : ℕ). take k (set answers i answer)) (let one : i + 1 ≡ suc i = omega arith in one) ∙ take-suc-set answers i answer room_here in
@@ -200,50 +172,6 @@ unfolding FoldGoesOn
 fold_goes_on a m room bytes ends answers r n left post first calls run =
     subst (λ (c : List Call). Run first c r n) (sym (added_after room (splits bytes 0 ends) left calls)) (steps_after run post.steps)
 
--- ---- question 1 and the states
-
-module _ (a : Accumulator) (m : Mem) (room : ℕ) (bytes ends answers : List ℕ) where
-  pub fold_unfit : fits a m ≡ false → FoldPost a m room bytes ends answers 1 a m answers
-  fold_unfit e =
-      record {
-        answer_is = sym (ap (λ (t : Bool). cond t 0 1) e);
-        refused = λ (f : fits a m ≡ false). (refl, refl, refl);
-        folded = λ (f : fits a m ≡ true). absurd (true≢false (sym f ∙ e));
-      }
-
-  pub fold_pre : fold_fits bytes ends answers ≡ true → fits a m ≡ true → FoldedPre a m bytes ends answers
-  fold_pre good f =
-      let parts = both_true (leb (length ends) (length answers)) (ends_fit (length bytes) 0 ends) good in
-      record { fit = f; cut = parts.1; room = leb-true (length ends) (length answers) parts.0 }
-
-  pub fold_done : (h : Accumulator) (n : Mem) (left : List ℕ) → fits a m ≡ true → FoldedPost a m room bytes ends answers h n left
-      → FoldPost a m room bytes ends answers 0 h n left
-  fold_done h n left e post =
-      record {
-        answer_is = sym (ap (λ (t : Bool). cond t 0 1) e);
-        refused = λ (f : fits a m ≡ false). absurd (true≢false (sym e ∙ f));
-        folded = λ (f : fits a m ≡ true). post;
-      }
-
-  -- What the answer says of question 1.
-  module _ (answer : ℕ) (r : Accumulator) (n : Mem) (left : List ℕ) (post : FoldPost a m room bytes ends answers answer r n left) where
-    by_fit : (t : Bool) → fits a m ≡ t → answer ≡ cond t 0 1
-    by_fit t e = post.answer_is ∙ ap (λ (b : Bool). cond b 0 1) e
-
-    pub was_fit : answer ≡ 0 → fits a m ≡ true
-    was_fit z = go (fits a m) refl
-      where
-        go : (t : Bool) → fits a m ≡ t → fits a m ≡ true
-        go true e = e
-        go false e = absurd (let y : ⊥ = omega (arith, by_fit false e) in y)
-
-    pub was_unfit : (answer ≡ 0 → ⊥) → fits a m ≡ false
-    was_unfit z = go (fits a m) refl
-      where
-        go : (t : Bool) → fits a m ≡ t → fits a m ≡ false
-        go true e = absurd (z (by_fit true e))
-        go false e = e
-
 -- ---- one state
 
 -- Its end is that of the bytes, and it has one cell.
@@ -261,74 +189,27 @@ unfolding added_all splits
 one_added room bytes [] e = absurd (let z : ⊥ = omega arith in z)
 one_added room bytes (k ∷ left) e = refl
 
-module _ (a : Accumulator) (m : Mem) (room : ℕ) (bytes : List ℕ) (cell answer : ℕ) (r : Accumulator) (n : Mem) (left : List ℕ)
+module _ {a : Accumulator} {m : Mem} {room : ℕ} {bytes : List ℕ} {cell answer : ℕ} {r : Accumulator} {n : Mem} {left : List ℕ}
     (post : FoldPost a m room bytes (length bytes ∷ []) (cell ∷ []) answer r n left) where
+  -- What the answer says of question 1.
+  asked : (t : Bool) → fits a m ≡ t → answer ≡ cond t 0 1
+  asked t e = post.answer_is ∙ ap (λ (b : Bool). cond b 0 1) e
+
   pub one_state : answer ≡ 0 → AddPost a m room bytes (get_or left 0 0) r n
-  one_state z =
-      let folded = post.folded (was_fit a m room bytes (length bytes ∷ []) (cell ∷ []) answer r n left post z) in
-      subst (λ (s : List ℕ). AddPost a m room s (get_or left 0 0) r n) (take_all (length bytes - 0) bytes (omega arith))
-      (one_call (subst (λ (c : List Call). Steps a m c r n) (one_added room bytes left folded.cells) folded.steps))
+  one_state z = go (fits a m) refl
+    where
+      go : (t : Bool) → fits a m ≡ t → AddPost a m room bytes (get_or left 0 0) r n
+      go true e =
+          let folded = post.folded e in
+          subst (λ (s : List ℕ). AddPost a m room s (get_or left 0 0) r n) (take_all (length bytes - 0) bytes (omega arith))
+          (one_call (subst (λ (c : List Call). Steps a m c r n) (one_added room bytes left folded.cells) folded.steps))
+      go false e = absurd (let y : ⊥ = omega (arith, asked false e) in y)
 
   pub one_refused : (answer ≡ 0 → ⊥) → AddPost a m room bytes answer r n
-  one_refused z =
-      let unfit = was_unfit a m room bytes (length bytes ∷ []) (cell ∷ []) answer r n left post z in
-      let same = post.refused unfit in
-      let one : answer ≡ 1 = post.answer_is ∙ ap (λ (b : Bool). cond b 0 1) unfit in
-      subst (λ (l : Mem). AddPost a m room bytes answer r l) (sym same.1)
-      (subst (λ (h : Accumulator). AddPost a m room bytes answer h m) (sym same.0)
-      (subst (λ (k : ℕ). AddPost a m room bytes k a m) (sym one)
-      (refused_post a m room bytes 1 (add_unfit a m room bytes unfit))))
-
--- ---- of a head that is a row
-
-module _ (row : List ℕ) (m : Mem) (room : ℕ) (bytes ends answers : List ℕ) where
-  -- A refusal of the whole leaves all as it was.
-  refused_whole : (k : ℕ) → 0 < k → k ≡ fold_answer row m bytes ends answers → FoldRowPost row m room bytes ends answers k row m answers
-  refused_whole k h e =
-      record {
-        answer_is = e;
-        refused = λ (f : k ≡ 0 → ⊥). (refl, refl, refl);
-        folded = λ (f : k ≡ 0). absurd (let z : ⊥ = omega arith in z);
-      }
-
-  pub fold_bad : fold_fits bytes ends answers ≡ false → FoldRowPost row m room bytes ends answers 100 row m answers
-  fold_bad e = refused_whole 100 (omega arith) (sym (ap (λ (t : Bool). cond t (cond (is_head row && fits (head_in row) m) 0 1) 100) e))
-
-  module _ (good : fold_fits bytes ends answers ≡ true) where
-    answered : (t : Bool) → is_head row && fits (head_in row) m ≡ t → fold_answer row m bytes ends answers ≡ cond t 0 1
-    answered t e =
-        ap (λ (b : Bool). cond b (cond (is_head row && fits (head_in row) m) 0 1) 100) good ∙ ap (λ (b : Bool). cond b 0 1) e
-
-    pub fold_missing : is_head row ≡ false → FoldRowPost row m room bytes ends answers 1 row m answers
-    fold_missing e = refused_whole 1 (omega arith) (sym (answered false (ap (λ (t : Bool). t && fits (head_in row) m) e)))
-
-    module _ (a : Accumulator) (x : Found row a) where
-      fits_row : (t : Bool) → fits a m ≡ t → is_head row && fits (head_in row) m ≡ t
-      fits_row t e =
-          ap (λ (b : Bool). b && fits (head_in row) m) x.yes_head ∙ ap (λ (h : Accumulator). fits h m) (sym x.is_head) ∙ e
-
-      module _ (answer : ℕ) (r : Accumulator) (n : Mem) (left : List ℕ) (post : FoldPost a m room bytes ends answers answer r n left) where
-        -- Question 1 was answered with no.
-        pub row_unfit : (answer ≡ 0 → ⊥) → FoldRowPost row m room bytes ends answers answer row n left
-        row_unfit z =
-            let e = was_unfit a m room bytes ends answers answer r n left post z in
-            let same = post.refused e in
-            record {
-              answer_is = post.answer_is ∙ ap (λ (t : Bool). cond t 0 1) e ∙ sym (answered false (fits_row false e));
-              refused = λ (f : answer ≡ 0 → ⊥). (refl, same.1, same.2);
-              folded = λ (f : answer ≡ 0). absurd (z f);
-            }
-
-        pub row_folded : answer ≡ 0 → (after : List ℕ) → after ≡ with_head r row → FoldRowPost row m room bytes ends answers 0 after n left
-        row_folded z after put =
-            let f = was_fit a m room bytes ends answers answer r n left post z in
-            record {
-              answer_is = sym (answered true (fits_row true f));
-              refused = λ (g : ◌≡◌ {A = ℕ} 0 0 → ⊥). absurd (g refl);
-              folded = λ (g : ◌≡◌ {A = ℕ} 0 0).
-                  record {
-                    head = r;
-                    post = subst (λ (b : Accumulator). FoldedPost b m room bytes ends answers r n left) x.is_head (post.folded f);
-                    row_left = put;
-                  };
-            }
+  one_refused z = go (fits a m) refl
+    where
+      go : (t : Bool) → fits a m ≡ t → AddPost a m room bytes answer r n
+      go true e = absurd (z (asked true e))
+      go false e =
+          let same = post.refused e in
+          rw (asked false e, same.0, same.1) (refused_post a m room bytes 1 (add_unfit a m room bytes e))

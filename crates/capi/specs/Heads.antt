@@ -1,10 +1,8 @@
 -- The head of a roll-up as ten numbers in a row, for callers in other languages.
-use Rattle.std.specs.Prelude.{List, [], ◌∷◌, ◌++◌, Bool, cond, ◌&&◌, ℕ, ◌^◌, ltb, leb, eqb, length, get_or, drop}
+use Rattle.std.specs.Prelude.{Option, Some, None, List, [], ◌∷◌, ◌++◌, Bool, cond, ◌&&◌, ℕ, ◌^◌, ltb, leb, eqb, length, get_or, drop}
 use Rattle.rollup.specs.declared.accumulator.Form.{Form}
 use Rattle.rollup.specs.declared.accumulator.Form.TheVariants.{Unstarted, Sparse, Dense}
 use Rattle.rollup.specs.declared.accumulator.Accumulator.{Accumulator}
-use Rattle.capi.specs.declared.heads.Head.{Head}
-use Rattle.capi.specs.declared.heads.Head.TheVariants.{Is, Unknown}
 
 -- Document 01's forms: 0 unstarted, 1 list, 2 dense.
 abbrev pub form_number : Form → ℕ
@@ -61,6 +59,9 @@ head_in l =
 unfoldable pub with_head : Accumulator → List ℕ → List ℕ
 with_head a l = row_of a ++ drop 10 l
 
--- What `read_head` answers.
-abbrev pub read_head : List ℕ → Head
-read_head l = cond (is_head l) (Is (head_in l)) Unknown
+-- What reading a form and a head answers.
+abbrev pub read_form : ℕ → Option Form
+read_form n = cond (leb n 2) (Some (form_of n)) None
+
+abbrev pub read_head : List ℕ → Option Accumulator
+read_head l = cond (is_head l) (Some (head_in l)) None

@@ -5,7 +5,6 @@ ghost use Rattle.rollup.specs.Accumulator.{mem};
 ghost use Rattle.capi.specs.Calls.{AddRowPost, WriteRowPost, FreshPost};
 ghost use Rattle.capi.specs.Folds.{FoldRowPost};
 
-use crate::heads::Head;
 use crate::{folding, heads};
 use rollup::accumulator::Accumulator;
 use rollup::memory::Memory;
@@ -22,6 +21,7 @@ pub fn filmoed_fresh(head: &mut [u64]) -> u8
 }
 
 // Adds a state: what `Accumulator::add` of `rollup` promises.
+#[tactic(auto, using(crate::proofs::CallLaws::ten_cells))]
 pub fn filmoed_add(
     head: &mut [u64],
     registers: &mut [u8],
@@ -32,11 +32,9 @@ pub fn filmoed_add(
 ) -> u8
     ensures { AddRowPost head.old (mem registers.old sparse.old pending.old) (length scratch.old) state.now result head.new (mem registers.new sparse.new pending.new) }
 {
-    let h = heads::read_head(&head[..]);
-    let Head::Is(a) = h else {
+    let Some(mut a) = heads::read_head(head) else {
         return 1;
     };
-    let mut a = a;
     let mut memory = Memory {
         registers,
         sparse,
@@ -52,8 +50,8 @@ pub fn filmoed_add(
 fn put_first(cells: &mut [u64], v: u64)
     ensures { cells.new ≡ set cells.old 0 v }
 {
-    if 0 < cells.len() {
-        cells[0] = v;
+    if let Some(first) = cells.first_mut() {
+        *first = v;
     }
 }
 
@@ -69,8 +67,7 @@ pub fn filmoed_write(
 ) -> u8
     ensures { WriteRowPost head.now (mem registers.now sparse.now pending.old) (length scratch.old) out.old len.old result (mem registers.now sparse.now pending.new) out.new len.new }
 {
-    let h = heads::read_head(head);
-    let Head::Is(a) = h else {
+    let Some(a) = heads::read_head(head) else {
         put_first(len, 0);
         return 1;
     };
@@ -90,6 +87,7 @@ pub fn filmoed_write(
 const BAD_ENDS: u8 = 100;
 
 // Adds many states: `states` has them one behind the other, `ends` where each one ends, and `answers` a cell for each answer. These arguments are judged first.
+#[tactic(auto, using(crate::proofs::CallLaws::ten_cells))]
 pub fn filmoed_fold(
     head: &mut [u64],
     registers: &mut [u8],
@@ -105,11 +103,9 @@ pub fn filmoed_fold(
     if !folding::fold_fits(states, ends, &answers[..]) {
         return BAD_ENDS;
     }
-    let h = heads::read_head(&head[..]);
-    let Head::Is(a) = h else {
+    let Some(mut a) = heads::read_head(head) else {
         return 1;
     };
-    let mut a = a;
     let mut memory = Memory {
         registers,
         sparse,

@@ -12,37 +12,25 @@ use rollup::memory::Memory;
 use rollup::refusal;
 use rollup::refusal::Refusal;
 
-// Whether it was so before and `end` is not before `start`, with no branch in a loop.
-fn goes_on(before: bool, start: u64, end: u64) -> bool
-    ensures { result ≡ (before && leb start end) }
-{
-    if before { start <= end } else { false }
-}
-
 // Whether the ends are of states in so many bytes. The loop has no way out, so that it has no branch: a fold of right ends pays little.
+#[tactic(auto, unfolding(crate::specs::Folds::ends_fit))]
 fn ends_fit(ends: &[u64], size: u64) -> bool
     ensures { result ≡ ends_fit size 0 ends.now }
 {
     let mut all = true;
-    let mut start: u64 = 0;
-    let mut i: usize = 0;
-    while i < ends.len() {
-        let end = ends[i];
-        all = goes_on(all, start, end);
+    let mut start = 0;
+    for &end in ends {
+        all &= start <= end;
         start = end;
-        i += 1;
     }
-    goes_on(all, start, size)
+    all & (start <= size)
 }
 
 // Judges a fold's own arguments, so that the loop over the states asks nothing more of them.
 pub(crate) fn fold_fits(bytes: &[u8], ends: &[u64], answers: &[u8]) -> bool
     ensures { result ≡ fold_fits bytes.now ends.now answers.now }
 {
-    if answers.len() < ends.len() {
-        return false;
-    }
-    ends_fit(ends, bytes.len() as u64)
+    ends.len() <= answers.len() && ends_fit(ends, bytes.len() as u64)
 }
 
 // Adds the states between the ends, and puts each answer into its cell.
@@ -61,13 +49,11 @@ fn fold_states(
         head: a,
         distinct: false,
     };
-    let mut start: usize = 0;
-    let mut i: usize = 0;
-    while i < ends.len() {
-        let end = ends[i] as usize;
+    let mut start = 0;
+    for (i, &end) in ends.iter().enumerate() {
+        let end = end as usize;
         answers[i] = refusal::answer_of(fitted.add(memory, &bytes[start..end]));
         start = end;
-        i += 1;
     }
     fitted.head
 }
@@ -96,8 +82,8 @@ pub(crate) fn add_one(head: &mut Accumulator, memory: &mut Memory, state: &[u8])
     ensures post { AddPost head.old (mem_of memory.old) (length memory.old.scratch.now) state.now result head.new (mem_of memory.new) }
     ensures same { SameLent memory.old memory.new }
 {
-    let ends = [state.len() as u64; 1];
-    let mut answers = [0u8; 1];
+    let ends = [state.len() as u64];
+    let mut answers = [0];
     match fold(head, memory, state, &ends, &mut answers) {
         Ok(()) => answers[0],
         Err(e) => e.number(),

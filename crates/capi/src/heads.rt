@@ -1,104 +1,71 @@
 // The head of a roll-up as ten numbers in a row: form, type mask, value type, value count, p, s, sparse size, kept count, kept bytes, waiting count.
-ghost use Rattle.std.specs.Prelude.{◌≡◌, true, ◌≤◌, length};
-ghost use Rattle.capi.specs.Heads.{form_number, form_of, is_head, head_in, with_head, read_head};
+ghost use Rattle.std.specs.Prelude.{◌≡◌, ◌≤◌, length};
+ghost use Rattle.capi.specs.Heads.{read_form, read_head, with_head};
 
 use rollup::accumulator::{Accumulator, Form};
 
-// The head that a row of numbers is; or the row is none.
-#[derive(Clone, Copy)]
-pub enum Head {
-    Is(Accumulator),
-    Unknown,
-}
-
-fn form_number(form: Form) -> u64
-    ensures { result ≡ form_number form }
-{
-    match form {
-        Form::Unstarted => 0,
-        Form::Sparse => 1,
-        Form::Dense => 2,
-    }
-}
-
-fn form_of(n: u64) -> Form
-    ensures { result ≡ form_of n }
+// The form of a number, if it is one: that of `form as u64`.
+fn read_form(n: u64) -> Option<Form>
+    ensures { result ≡ read_form n }
 {
     match n {
-        0 => Form::Unstarted,
-        1 => Form::Sparse,
-        _ => Form::Dense,
+        0 => Some(Form::Unstarted),
+        1 => Some(Form::Sparse),
+        2 => Some(Form::Dense),
+        _ => None,
     }
 }
 
-// Whether a row of numbers is a head.
-fn is_head(row: &[u64]) -> bool
-    ensures { result ≡ is_head row.now }
-{
-    if row.len() < 10 {
-        return false;
-    }
-    if 2 < row[0] {
-        return false;
-    }
-    if 255 < row[1] {
-        return false;
-    }
-    if 0xffff_ffff < row[2] {
-        return false;
-    }
-    if 0xffff_ffff < row[4] {
-        return false;
-    }
-    if 0xffff_ffff < row[5] {
-        return false;
-    }
-    row[6] <= 0xffff_ffff
-}
-
-// The numbers of a head, taken out of its row.
-fn head_in(row: &[u64]) -> Accumulator
-    requires { is_head row.now ≡ true }
-    ensures { result ≡ head_in row.now }
-{
-    let form = form_of(row[0]);
-    Accumulator {
-        form,
-        allowed: row[1] as u8,
-        value_type: row[2] as u32,
-        num_values: row[3],
-        precision: row[4] as u32,
-        sparse_precision: row[5] as u32,
-        sparse_size: row[6] as u32,
-        sparse_len: row[7] as usize,
-        sparse_bytes: row[8] as usize,
-        pending_len: row[9] as usize,
-    }
-}
-
-pub fn read_head(row: &[u64]) -> Head
+// The head that a row of numbers is, if it is one. Numbers behind the ten do not count.
+#[tactic(auto, unfolding(crate::specs::Heads::is_head, crate::specs::Heads::head_in))]
+pub fn read_head(row: &[u64]) -> Option<Accumulator>
     ensures { result ≡ read_head row.now }
 {
-    if !is_head(row) {
-        return Head::Unknown;
-    }
-    let head = head_in(row);
-    Head::Is(head)
+    let &[
+        form,
+        allowed,
+        value_type,
+        num_values,
+        precision,
+        sparse_precision,
+        sparse_size,
+        sparse_len,
+        sparse_bytes,
+        pending_len,
+        ..
+    ] = row
+    else {
+        return None;
+    };
+    Some(Accumulator {
+        form: read_form(form)?,
+        allowed: u8::try_from(allowed).ok()?,
+        value_type: u32::try_from(value_type).ok()?,
+        num_values,
+        precision: u32::try_from(precision).ok()?,
+        sparse_precision: u32::try_from(sparse_precision).ok()?,
+        sparse_size: u32::try_from(sparse_size).ok()?,
+        sparse_len: sparse_len as usize,
+        sparse_bytes: sparse_bytes as usize,
+        pending_len: pending_len as usize,
+    })
 }
 
+#[tactic(auto, unfolding(crate::specs::Heads::with_head))]
 pub fn put_head(row: &mut [u64], a: Accumulator)
     requires { 10 ≤ length row.old }
     ensures { row.new ≡ with_head a row.old }
 {
-    let form = a.form;
-    row[0] = form_number(form);
-    row[1] = a.allowed as u64;
-    row[2] = a.value_type as u64;
-    row[3] = a.num_values;
-    row[4] = a.precision as u64;
-    row[5] = a.sparse_precision as u64;
-    row[6] = a.sparse_size as u64;
-    row[7] = a.sparse_len as u64;
-    row[8] = a.sparse_bytes as u64;
-    row[9] = a.pending_len as u64;
+    row[..10].copy_from_slice(&[
+        a.form as u64,
+        u64::from(a.allowed),
+        u64::from(a.value_type),
+        a.num_values,
+        u64::from(a.precision),
+        u64::from(a.sparse_precision),
+        u64::from(a.sparse_size),
+        a.sparse_len as u64,
+        a.sparse_bytes as u64,
+        a.pending_len as u64,
+    ]);
 }

@@ -1,10 +1,7 @@
 -- A fold of one state, whose end is that of the bytes: what it answers as a whole is question 1 (`one_refused`), and else the state's answer counts (`one_state`).
-use Prim.Native.Nat.{ℕ}
-use mathlib.Core.Path.{refl, sym, subst}
-use lib.ListN.{length}
+use Rattle.std.proofs.Common.{length, refl, sym, subst, ℕ}
 use Rattle.rollup.specs.Adding.{AddPost}
 use Rattle.rollup.specs.Lent.{mem_of}
-use Rattle.rollup.specs.Refusals.{number}
 use Rattle.rollup.proofs.RefusalLaws.{number_some}
 use Rattle.capi.proofs.FoldLaws.{one_fits, one_state, one_refused}
 use Rattle.capi.proofs.folding.add_one.Goals as goal
@@ -13,14 +10,10 @@ pub fold-requires : goal.fold-requires
 fold-requires c = one_fits c.args.state.now 0
 
 pub returns-in-Ok-clause-post : goal.returns-in-Ok-clause-post
-returns-in-Ok-clause-post c =
-    let a = c.args in
-    one_state a.head.now (mem_of a.memory.now) (length a.memory.now.scratch.now) a.state.now 0 0 _ _ _ c.in-Ok.ensures.folded refl
+returns-in-Ok-clause-post c = one_state c.in-Ok.ensures.folded refl
 
 pub returns-in-Err-clause-post : goal.returns-in-Err-clause-post
 returns-in-Err-clause-post c =
-    let a = c.args in
-    let m = mem_of a.memory.now in
-    let room = length a.memory.now.scratch.now in
-    subst (λ (k : ℕ). AddPost a.head.now m room a.state.now k c.fold.new.head (mem_of c.fold.new.memory)) (sym c.number.ensures)
-    (one_refused a.head.now m room a.state.now 0 (number c.in-Err.e) _ _ _ c.in-Err.ensures.folded (number_some c.in-Err.e))
+    let m = c.args.memory.now in
+    subst (λ (k : ℕ). AddPost c.args.head.now (mem_of m) (length m.scratch.now) c.args.state.now k c.fold.new.head (mem_of c.fold.new.memory)) (sym c.number.ensures)
+    (one_refused c.in-Err.ensures.folded (number_some c.in-Err.e))

@@ -1,7 +1,5 @@
 -- The loop over the states: each turn adds one call to those before it.
-use Prim.Native.Nat.{◌-◌}
-use mathlib.Core.Path.{◌≡◌}
-use lib.ListN.{length}
+use Rattle.std.proofs.Common.{length}
 use Rattle.rollup.specs.Accumulator.{kept_of}
 use Rattle.rollup.specs.Lent.{mem_of, SameLent}
 use Rattle.rollup.specs.Stages.{KnownDistinct}
@@ -12,9 +10,5 @@ abbrev pub invariant-loop-i : goal.invariant-loop-i
 invariant-loop-i l = record {
   folding : Folding l.initial.fitted.head (mem_of l.initial.memory) (length l.initial.memory.scratch.now) l.bytes l.ends l.initial.answers l.start l.i l.fitted.head (mem_of l.memory) l.answers;
   same : SameLent l.initial.memory l.memory;
-  cells : length l.answers ≡ length l.initial.answers;
   known : KnownDistinct l.fitted.distinct l.fitted.head.precision l.fitted.head.sparse_precision (kept_of l.fitted.head (mem_of l.memory));
 }
-
-abbrev pub decreases-loop-i : goal.decreases-loop-i
-decreases-loop-i l = length l.ends - l.i
