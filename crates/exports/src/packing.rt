@@ -22,7 +22,13 @@ pub enum PackError {
 }
 
 // Packs the state of line n, where it has one.
-fn pack_line(word: &[u8], n: usize, spare: &mut [u8], out: &mut [u8], p: Place) -> Result<Place, PackError>
+fn pack_line(
+    word: &[u8],
+    n: usize,
+    spare: &mut [u8],
+    out: &mut [u8],
+    p: Place,
+) -> Result<Place, PackError>
     requires { LinePre word.now spare.old out.old p }
     ensures { LinePost (held word.now) n out.old p result out.new }
 {

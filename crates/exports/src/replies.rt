@@ -82,7 +82,10 @@ pub(crate) fn pack_reply(arrived: Arrived, lines: &[u8], spare: &mut [u8], out: 
     match arrived.stream {
         Ok(n) => pack_lines(&lines[..n], spare, out),
         Err(StreamError::Failed) => complain(out, b"pack: standard input cannot be read\n"),
-        Err(StreamError::Full) => complain(out, b"pack: standard input is longer than 262,144 bytes\n"),
+        Err(StreamError::Full) => complain(
+            out,
+            b"pack: standard input is longer than 262,144 bytes\n",
+        ),
     }
 }
 
@@ -93,7 +96,10 @@ fn unpack_batch(batch: &[u8], indices: &mut [u32], text: &mut [u8]) -> Said
     match unpacking::unpack(batch, indices, text) {
         Ok(n) => Said::Out(n),
         Err(UnpackError::Broken { records, ending }) => complain_of_chain(text, records, ending),
-        Err(UnpackError::TooLong) => complain(text, b"unpack: the text is longer than 1,048,576 bytes\n"),
+        Err(UnpackError::TooLong) => complain(
+            text,
+            b"unpack: the text is longer than 1,048,576 bytes\n",
+        ),
     }
 }
 

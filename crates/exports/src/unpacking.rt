@@ -53,7 +53,11 @@ fn put_lines(text: &mut [u8], batch: &[u8], indices: &[u32]) -> usize
 
 // Puts the text of a batch at the front of `text`, and answers how long it is. `indices` is for the walk, which comes first: where the chain is broken, nothing
 // is put.
-pub(crate) fn unpack(batch: &[u8], indices: &mut [u32], text: &mut [u8]) -> Result<usize, UnpackError>
+pub(crate) fn unpack(
+    batch: &[u8],
+    indices: &mut [u32],
+    text: &mut [u8],
+) -> Result<usize, UnpackError>
     requires { 65536 ≤ length indices.old }
     ensures { UnpackedPost batch.now indices.old text.old result indices.new text.new }
 {

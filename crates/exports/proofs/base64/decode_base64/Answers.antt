@@ -35,10 +35,10 @@ loop-i-preserved c =
     let v = c.in_ok-v.v in
     let after = c.put_three.new.out in (
       l.invariant.0
-      ∙ ap (onto (take (3 * l.i) l.out)) (next_four word (4 * l.i) (omega arith) _ c.in_ok-v.ensures.value)
-      ∙ group_more l.out after (drop (4 * l.i + 4) word) (3 * l.i) v (omega (arith, l.invariant.1)) c.put_three.ensures
-      ∙ ap (λ (n : ℕ). onto (take n after) (base64_of (drop (4 * l.i + 4) word))) (let e : 3 * l.i + 3 ≡ 3 * (l.i + 1) = omega arith in e)
-      ∙ ap (λ (n : ℕ). onto (take (3 * (l.i + 1)) after) (base64_of (drop n word))) (let e : 4 * l.i + 4 ≡ 4 * (l.i + 1) = omega arith in e),
+          ∙ ap (onto (take (3 * l.i) l.out)) (next_four word (4 * l.i) (omega arith) _ c.in_ok-v.ensures.value)
+          ∙ group_more l.out after (drop (4 * l.i + 4) word) (3 * l.i) v (omega (arith, l.invariant.1)) c.put_three.ensures
+          ∙ ap (λ (n : ℕ). onto (take n after) (base64_of (drop (4 * l.i + 4) word))) (let e : 3 * l.i + 3 ≡ 3 * (l.i + 1) = omega arith in e)
+          ∙ ap (λ (n : ℕ). onto (take (3 * (l.i + 1)) after) (base64_of (drop n word))) (let e : 4 * l.i + 4 ≡ 4 * (l.i + 1) = omega arith in e),
       c.put_three.auto.out ∙ l.invariant.1,
     )
 
