@@ -7,6 +7,8 @@ ghost use Rattle.std.specs.Prelude.{◌≡◌, ◌≤◌, ◌<◌, length};
 use console::input::Bytes;
 use console::text;
 use rollup::accumulator::{Accumulator, Form};
+use rollup::adding::Fitted;
+use rollup::memory::Memory;
 use std::io::Stdout;
 
 mod answers;
@@ -91,77 +93,51 @@ fn list_line(stdout: Stdout, line: &[u8], list: &mut [u32]) {
 
 // ---- calls
 
-fn add_case(
-    stdout: Stdout,
-    head: Accumulator,
-    registers: &mut [u8],
-    sparse: &mut [u32],
-    pending: &mut [u32],
-    scratch: &mut [u32],
-    bytes: &[u8],
-) -> Accumulator {
-    let r = rollup::adding::add(head, registers, sparse, pending, scratch, bytes);
-    answers::print_after(
-        stdout,
-        r.answer,
-        r.head,
-        &registers[..],
-        &sparse[..],
-        &pending[..],
-    );
-    r.head
+fn add_case(stdout: Stdout, head: Accumulator, memory: &mut Memory, bytes: &[u8]) -> Accumulator {
+    let mut after = head;
+    let answer = after.add(memory, bytes);
+    answers::print_after(stdout, answer, after, memory);
+    after
 }
 
 // The same by the function that asks for a head that fits.
 fn fitting_case(
     stdout: Stdout,
     head: Accumulator,
-    registers: &mut [u8],
-    sparse: &mut [u32],
-    pending: &mut [u32],
-    scratch: &mut [u32],
+    memory: &mut Memory,
     bytes: &[u8],
 ) -> Accumulator {
-    if !rollup::fitting::fits(head, &registers[..], &sparse[..], &pending[..]) {
+    if !head.fits_in(memory) {
         text::bad_case(stdout);
         return head;
     }
-    let r = rollup::adding::add_fitting(head, false, registers, sparse, pending, scratch, bytes);
-    answers::print_after(
-        stdout,
-        r.answer,
-        r.head,
-        &registers[..],
-        &sparse[..],
-        &pending[..],
-    );
-    r.head
+    let mut fitted = Fitted {
+        head,
+        distinct: false,
+    };
+    let answer = fitted.add(memory, bytes);
+    answers::print_after(stdout, answer, fitted.head, memory);
+    fitted.head
 }
 
 fn state_case(
     stdout: Stdout,
     kind: u8,
     head: Accumulator,
-    registers: &mut [u8],
-    sparse: &mut [u32],
-    pending: &mut [u32],
-    scratch: &mut [u32],
+    memory: &mut Memory,
     bytes: &[u8],
 ) -> Accumulator {
     if kind == b'f' {
-        return fitting_case(stdout, head, registers, sparse, pending, scratch, bytes);
+        return fitting_case(stdout, head, memory, bytes);
     }
-    add_case(stdout, head, registers, sparse, pending, scratch, bytes)
+    add_case(stdout, head, memory, bytes)
 }
 
 fn add_line(
     stdout: Stdout,
     kind: u8,
     head: Accumulator,
-    registers: &mut [u8],
-    sparse: &mut [u32],
-    pending: &mut [u32],
-    scratch: &mut [u32],
+    memory: &mut Memory,
     line: &[u8],
 ) -> Accumulator {
     let mut bytes = console::memory::buffer();
@@ -170,16 +146,7 @@ fn add_line(
         text::bad_case(stdout);
         return head;
     };
-    state_case(
-        stdout,
-        kind,
-        head,
-        registers,
-        sparse,
-        pending,
-        scratch,
-        &bytes[..n],
-    )
+    state_case(stdout, kind, head, memory, &bytes[..n])
 }
 
 // A size of at most `most`, which stands for a larger one too.
@@ -190,80 +157,49 @@ fn size(word: &[u8], most: usize) -> usize
     if v < most { v } else { most }
 }
 
-fn write_case(
-    stdout: Stdout,
-    head: Accumulator,
-    registers: &[u8],
-    sparse: &[u32],
-    pending: &mut [u32],
-    scratch: &mut [u32],
-    out: &mut [u8],
-) {
-    let r = rollup::writing::write(head, registers, sparse, pending, scratch, out);
-    answers::print_written(stdout, r.answer, r.len, &out[..]);
-    answers::print_memory(stdout, head, registers, sparse, &pending[..]);
+fn write_case(stdout: Stdout, head: Accumulator, memory: &mut Memory, out: &mut [u8]) {
+    let (registers, sparse, pending, scratch) = (
+        &mut *memory.registers,
+        &mut *memory.sparse,
+        &mut *memory.pending,
+        &mut *memory.scratch,
+    );
+    let r = head.write(registers, sparse, pending, scratch, out);
+    answers::print_written(stdout, r, &out[..]);
+    answers::print_memory(stdout, head, memory);
     text::end_line(stdout);
 }
 
 // The same by the function that asks for a head that fits.
-fn write_fitting_case(
-    stdout: Stdout,
-    head: Accumulator,
-    registers: &[u8],
-    sparse: &[u32],
-    pending: &mut [u32],
-    scratch: &mut [u32],
-    out: &mut [u8],
-) {
-    if !rollup::fitting::fits(head, registers, sparse, &pending[..]) {
+fn write_fitting_case(stdout: Stdout, head: Accumulator, memory: &mut Memory, out: &mut [u8]) {
+    if !head.fits_in(memory) {
         text::bad_case(stdout);
         return;
     }
-    let r = rollup::writing::write_fitting(head, registers, sparse, pending, scratch, out);
-    answers::print_written(stdout, r.answer, r.len, &out[..]);
-    answers::print_memory(stdout, head, registers, sparse, &pending[..]);
+    let (registers, sparse, pending, scratch) = (
+        &mut *memory.registers,
+        &mut *memory.sparse,
+        &mut *memory.pending,
+        &mut *memory.scratch,
+    );
+    let r = head.write_fitting(registers, sparse, pending, scratch, out);
+    answers::print_written(stdout, r, &out[..]);
+    answers::print_memory(stdout, head, memory);
     text::end_line(stdout);
 }
 
-fn output_case(
-    stdout: Stdout,
-    kind: u8,
-    head: Accumulator,
-    registers: &[u8],
-    sparse: &[u32],
-    pending: &mut [u32],
-    scratch: &mut [u32],
-    out: &mut [u8],
-) {
+fn output_case(stdout: Stdout, kind: u8, head: Accumulator, memory: &mut Memory, out: &mut [u8]) {
     if kind == b'u' {
-        write_fitting_case(stdout, head, registers, sparse, pending, scratch, out);
+        write_fitting_case(stdout, head, memory, out);
     } else {
-        write_case(stdout, head, registers, sparse, pending, scratch, out);
+        write_case(stdout, head, memory, out);
     }
 }
 
-fn write_line(
-    stdout: Stdout,
-    kind: u8,
-    head: Accumulator,
-    registers: &[u8],
-    sparse: &[u32],
-    pending: &mut [u32],
-    scratch: &mut [u32],
-    line: &[u8],
-) {
+fn write_line(stdout: Stdout, kind: u8, head: Accumulator, memory: &mut Memory, line: &[u8]) {
     let n = size(text::word(line, 1), 20480);
     let mut out = output_bytes();
-    output_case(
-        stdout,
-        kind,
-        head,
-        registers,
-        sparse,
-        pending,
-        scratch,
-        &mut out[..n],
-    );
+    output_case(stdout, kind, head, memory, &mut out[..n]);
 }
 
 // ---- lines
@@ -274,38 +210,19 @@ fn remark(stdout: Stdout, line: &[u8]) {
 }
 
 // A line at a roll-up: a letter, and behind a blank its operands. The answer is the head after it.
-fn case(
-    stdout: Stdout,
-    head: Accumulator,
-    registers: &mut [u8],
-    sparse: &mut [u32],
-    pending: &mut [u32],
-    scratch: &mut [u32],
-    line: &[u8],
-) -> Accumulator {
+fn case(stdout: Stdout, head: Accumulator, memory: &mut Memory, line: &[u8]) -> Accumulator {
     if line.len() == 0 {
         text::bad_case(stdout);
         return head;
     }
     let kind = line[0];
     match kind {
-        b'a' | b'f' => return add_line(
-            stdout, kind, head, registers, sparse, pending, scratch, line,
-        ),
-        b'o' | b'u' => write_line(
-            stdout,
-            kind,
-            head,
-            &registers[..],
-            &sparse[..],
-            pending,
-            scratch,
-            line,
-        ),
+        b'a' | b'f' => return add_line(stdout, kind, head, memory, line),
+        b'o' | b'u' => write_line(stdout, kind, head, memory, line),
         b'h' => return head_line(stdout, line),
-        b'r' => registers_line(stdout, line, registers),
-        b'k' => list_line(stdout, line, sparse),
-        b'w' => list_line(stdout, line, pending),
+        b'r' => registers_line(stdout, line, memory.registers),
+        b'k' => list_line(stdout, line, memory.sparse),
+        b'w' => list_line(stdout, line, memory.pending),
         b'q' => answers::print_asked(stdout, head),
         b'#' => remark(stdout, line),
         _ => text::bad_case(stdout),
@@ -314,15 +231,7 @@ fn case(
 }
 
 // The lines up to the next `n`, at a roll-up that begins fresh with this memory. The answer is where they end.
-fn calls(
-    stdout: Stdout,
-    text: &[u8],
-    start: usize,
-    registers: &mut [u8],
-    sparse: &mut [u32],
-    pending: &mut [u32],
-    scratch: &mut [u32],
-) -> usize
+fn calls(stdout: Stdout, text: &[u8], start: usize, memory: &mut Memory) -> usize
     ensures { start ≤ result }
 {
     let mut head = Accumulator::new();
@@ -333,15 +242,7 @@ fn calls(
         }
         let end = console::input::find(text, at, b'\n');
         let next = end + 1;
-        head = case(
-            stdout,
-            head,
-            registers,
-            sparse,
-            pending,
-            scratch,
-            &text[at..end],
-        );
+        head = case(stdout, head, memory, &text[at..end]);
         at = next;
     }
     at
@@ -356,15 +257,13 @@ fn lend(stdout: Stdout, text: &[u8], start: usize, r: usize, k: usize, w: usize,
     let mut sparse = list_cells();
     let mut pending = list_cells();
     let mut scratch = list_cells();
-    calls(
-        stdout,
-        text,
-        start,
-        &mut registers[..r],
-        &mut sparse[..k],
-        &mut pending[..w],
-        &mut scratch[..s],
-    )
+    let mut memory = Memory {
+        registers: &mut registers[..r],
+        sparse: &mut sparse[..k],
+        pending: &mut pending[..w],
+        scratch: &mut scratch[..s],
+    };
+    calls(stdout, text, start, &mut memory)
 }
 
 // A new roll-up, whose lines start at `start`.

@@ -5,7 +5,7 @@ use lib.ListN.{length}
 use Rattle.rollup_cases.proofs.calls.Given as goal
 
 abbrev pub invariant-loop-at : goal.invariant-loop-at
-invariant-loop-at l = (l.start ≤ l.at) × (length l.registers ≡ length l.initial.registers) × (length l.sparse ≡ length l.initial.sparse) × (length l.pending ≡ length l.initial.pending) × (length l.scratch ≡ length l.initial.scratch)
+invariant-loop-at l = l.start ≤ l.at
 
 abbrev pub decreases-loop-at : goal.decreases-loop-at
 decreases-loop-at l = length l.text + 1 - l.at
