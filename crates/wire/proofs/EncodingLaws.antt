@@ -5,13 +5,12 @@ use mathlib.Core.List.{List, [], ◌∷◌, ◌++◌, append_assoc}
 use mathlib.Core.Option.{Option, none, some}
 use mathlib.Core.Bool.{Bool, true, false, not, cond}
 use native.Mathlib.Nat.{add-zero, add-suc, suc-add, zero-add, min-le_right}
-use native.Mathlib.Numerals.{add-one}
 use native.Mathlib.Omega.{arith}
 use lib.Dec.{eqb}
-use lib.ListN.{length, take, drop, get_or, set, length-append, length-set, length-take, length-drop, drop_of_length-le}
+use lib.ListN.{length, take, drop, set, length-append, length-take, length-drop}
 use lib.Seq.{sets, length-sets, sets-eq, drop-drop}
 use borrow.Rule.Slice.PartMut.{put_mid}
-use borrow.Author.Tests.{lt-ltb, le-ltb, le-leb, lt-leb, eq-eqb, ne_eqb, not-true, not-false}
+use borrow.Author.Tests.{lt-ltb, le-leb, lt-leb, eq-eqb, ne_eqb, not-true, not-false}
 use Rattle.wire.specs.declared.fields.Part.{Part}
 use Rattle.wire.specs.declared.state.HllFields.{HllFields}
 use Rattle.wire.specs.declared.state.Fields.{Fields}
@@ -110,9 +109,6 @@ put_part out d at h e =
 
 pub signed_small : (v : ℕ) → v < 2 ^ 31 → v ≡ sign_extended v
 signed_small v h = rw (lt-ltb _ _ h)
-
-pub signed_large : (v : ℕ) → 2 ^ 31 ≤ v → v + 18446744069414584320 ≡ sign_extended v
-signed_large v h = rw (le-ltb _ _ h)
 
 -- The code's field number, f, is the one that is meant.
 pub number_is : {f field : ℕ} → f ≡ field → (v : ℕ) → Two (number_field field v) (varint_bytes 10 (tag f VARINT)) (varint_bytes 10 v)

@@ -1,6 +1,6 @@
 -- Laws of reading tags, bytes and skipped fields at a position: from the answer that a call gave to the answer that its caller gives.
 use Prim.Native.Nat.{ℕ, zero, suc, ◌+◌, ◌-◌, ◌/◌, ◌%◌, ◌^◌, ◌<◌, ◌≤◌}
-use mathlib.Core.Path.{◌≡◌, refl, sym, ap, ap₂, ◌∙◌}
+use mathlib.Core.Path.{◌≡◌, refl, sym, ap, ◌∙◌}
 use mathlib.Core.List.{List, [], ◌∷◌}
 use mathlib.Core.Bool.{Bool, true, false, cond}
 use native.Mathlib.Nat.{mod-eq_of_lt}
@@ -17,7 +17,7 @@ use Rattle.wire.specs.declared.varint.Cursor.{Cursor}
 use Rattle.wire.specs.declared.fields.Part.{Part}
 use Rattle.wire.specs.Reading.{Read, got, refused, and_then, read_error_number, ReadPost}
 use Rattle.wire.specs.Varints.{low_bits, varint64, VarintPost, Varint32Post}
-use Rattle.wire.specs.Fields.{is_tag, tag_of, bytes_of, delimited_of, skip_of, field_of, fields_of, message_of, TagPost, TakenPost, TakePost, DelimitedPost, SkipPost}
+use Rattle.wire.specs.Fields.{is_tag, tag_of, bytes_of, delimited_of, skip_of, field_of, fields_of, message_of, TagPost, TakePost, DelimitedPost, SkipPost}
 
 -- What follows an answer depends on that answer alone.
 pub then_same : {A B : Type 0} {r r' : Read A} (next : A → List ℕ → Read B) → r ≡ r' → and_then r next ≡ and_then r' next
@@ -167,12 +167,12 @@ module _
     {reading : List ℕ → Read B}
     (is : (l : List ℕ) → skip_of t l ≡ and_then (reading l) (λ v rest. got tt rest))
   where
-  pub skipped_past : {a : A} {c : Cursor} → ReadPost says n s at reading (Ok (a, c)) → SkipPost s t at (Ok c)
-  skipped_past p = record { answer = then_same _ p.answer ∙ sym (is (drop at s)); inside = (omega (arith, p.inside.0), p.inside.1) }
+    pub skipped_past : {a : A} {c : Cursor} → ReadPost says n s at reading (Ok (a, c)) → SkipPost s t at (Ok c)
+    skipped_past p = record { answer = then_same _ p.answer ∙ sym (is (drop at s)); inside = (omega (arith, p.inside.0), p.inside.1) }
 
-  pub skip_failed : {e : ReadError} → ReadPost says n s at reading (Err e) → (r : Result Cursor ReadError) → IsErrAnd r (λ y. y ≡ e) → SkipPost s t at r
-  skip_failed p (Ok x) h = absurd h
-  skip_failed p (Err y) h = record { answer = stopped p _ h ∙ sym (is (drop at s)); inside = tt }
+    pub skip_failed : {e : ReadError} → ReadPost says n s at reading (Err e) → (r : Result Cursor ReadError) → IsErrAnd r (λ y. y ≡ e) → SkipPost s t at r
+    skip_failed p (Ok x) h = absurd h
+    skip_failed p (Err y) h = record { answer = stopped p _ h ∙ sym (is (drop at s)); inside = tt }
 
 pub skip_unknown : (s : List ℕ) (at t : ℕ) → (t % 8 ≡ 0 → ⊥) → (t % 8 ≡ 1 → ⊥) → (t % 8 ≡ 2 → ⊥) → (t % 8 ≡ 5 → ⊥)
     → SkipPost s t at (Err InvalidWireType)

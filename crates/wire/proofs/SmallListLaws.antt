@@ -3,7 +3,7 @@ use Prim.Native.Nat.{ℕ, suc, ◌+◌, ◌-◌, ◌<◌, ◌≤◌}
 use mathlib.Core.Path.{◌≡◌, refl, sym, ap, ap₂, ◌∙◌, subst}
 use mathlib.Core.List.{List, [], ◌∷◌, ◌++◌}
 use mathlib.Core.Option.{none, some}
-use mathlib.Core.Bool.{Bool, true, false}
+use mathlib.Core.Bool.{true, false}
 use mathlib.Core.Logic.{◌⊎◌, inl, inr, ⊎_elim}
 use native.Mathlib.Omega.{arith}
 use lib.ListN.{length, get_or, take, drop, length-drop}
@@ -284,10 +284,11 @@ with_value_type {s} {n} {r} p l t z e =
       near = omega (arith, ap length d, length-drop 6 s);
       bytes = e ∙ rest_is r 2 ∙ ap (λ (l : List ℕ). drop 2 l) d ∙ drop-drop 2 6 s;
       value_type =
-          inr
-          (refl,
-          sym (ap (λ (l : List ℕ). get_or l 0 0) d ∙ get_or-drop 6 s 0 0) ∙ t,
-          z ∙ ap (λ (l : List ℕ). get_or l 1 0) d ∙ get_or-drop 6 s 1 0);
+          inr (
+            refl,
+            sym (ap (λ (l : List ℕ). get_or l 0 0) d ∙ get_or-drop 6 s 0 0) ∙ t,
+            z ∙ ap (λ (l : List ℕ). get_or l 1 0) d ∙ get_or-drop 6 s 1 0,
+          );
     }
 
 module _ {s n : List ℕ} {v len : ℕ} (p : SmallPlace s n v) (b : SmallBytes n len) where

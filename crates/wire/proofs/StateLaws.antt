@@ -1,17 +1,14 @@
 -- Laws of reading a state: the value of each field, the tag that decides on it, and one field after the other.
 use Prim.Native.Nat.{ℕ, ◌+◌, ◌-◌, ◌%◌, ◌^◌, ◌<◌, ◌≤◌}
 use mathlib.Core.Path.{◌≡◌, refl, sym, ap, ◌∙◌, subst}
-use mathlib.Core.List.{List, []}
-use mathlib.Core.Bool.{Bool, true, false, cond}
-use mathlib.Core.Logic.{◌⊎◌, inl, inr}
+use mathlib.Core.List.{List}
 use mathlib.Core.Option.{some}
 use native.Mathlib.Omega.{arith}
 use native.Mathlib.Nat.{add_assoc}
-use lib.Dec.{eqb}
 use lib.ListN.{length, get_or, take, drop, length-drop}
 use lib.Seq.{length-take-le, get_or-take, get_or-drop, ext_get_or}
 use borrow.Author.Tests.{ne_eqb}
-use Rattle.std.specs.Prelude.{Result, Ok, Err, IfOk}
+use Rattle.std.specs.Prelude.{Result, Ok, Err}
 use Rattle.std.specs.Result.{IsErrAnd}
 use Rattle.wire.specs.declared.read_error.ReadError.{ReadError}
 use Rattle.wire.specs.declared.varint.Cursor.{Cursor}
@@ -20,9 +17,9 @@ use Rattle.wire.specs.declared.state.HllFields.{HllFields}
 use Rattle.wire.specs.declared.state.Fields.{Fields}
 use Rattle.wire.specs.Reading.{Read, got, refused, and_then, read_error_number, ReadPost}
 use Rattle.wire.specs.Varints.{varint64, VarintPost, Varint32Post}
-use Rattle.wire.specs.Fields.{tag, LEN, delimited_of, skip_of, field_of, bytes_at, TagPost, DelimitedPost, SkipPost}
-use Rattle.wire.specs.State.{HllState, State, empty_state, hll_of, state_of, is_hll_number, is_hll_bytes, with_hll_number, with_hll_bytes, hll_field, read_hll, is_number, with_number, with_hll, outer_field, read_state, HllInside, Within, HllStepPost, HllPost, StepPost, ParsePost}
-use Rattle.wire.proofs.ReadingLaws.{then_same, same_error, stopped, failed, varint32_then, varint32_stopped, Going, going_start, going_next, going_refused, going_end}
+use Rattle.wire.specs.Fields.{delimited_of, skip_of, field_of, TagPost, DelimitedPost, SkipPost}
+use Rattle.wire.specs.State.{HllState, State, empty_state, hll_of, state_of, hll_field, read_hll, with_hll, outer_field, read_state, HllInside, Within, HllStepPost, HllPost, StepPost, ParsePost}
+use Rattle.wire.proofs.ReadingLaws.{then_same, same_error, failed, varint32_then, varint32_stopped, Going, going_start, going_next, going_refused, going_end}
 
 -- ---- a part of a part
 
@@ -136,11 +133,6 @@ hll_step_refused : {m : List ℕ} {base at : ℕ} {h : HllFields} (e : ReadError
     → HllStepPost m base at h r
 hll_step_refused e (Ok x) i f = absurd i
 hll_step_refused e (Err y) i f = record { answer = λ s w. (f s w).answer; inside = λ s w k. tt; forward = tt }
-
-pub hll_tag_failed : {m : List ℕ} {base at : ℕ} {h : HllFields} {e : ReadError} → TagPost m at (Err e) → (r : Result (HllFields × Cursor) ReadError)
-    → IsErrAnd r (λ y. y ≡ e)
-    → HllStepPost m base at h r
-hll_tag_failed p r i = hll_step_refused _ r i (λ s w. failed p _ r i)
 
 module _ {m : List ℕ} {base at t : ℕ} {c : Cursor} {h : HllFields} (p : TagPost m at (Ok (t, c))) where
   -- A number: `g` is h with the number in its field.
@@ -262,19 +254,11 @@ step_refused : {s : List ℕ} {at : ℕ} {f : Fields} (e : ReadError) (r : Resul
 step_refused e (Ok x) i p = absurd i
 step_refused e (Err y) i p = record { read = p; inside = λ k. tt }
 
-pub outer_tag_failed : {s : List ℕ} {at : ℕ} {f : Fields} {e : ReadError} → TagPost s at (Err e) → (r : Result (Fields × Cursor) ReadError)
-    → IsErrAnd r (λ y. y ≡ e)
-    → StepPost s at f r
-outer_tag_failed p r i = step_refused _ r i (failed p _ r i)
-
 -- The nested message is a part of the state's bytes.
 abbrev pub between : List ℕ → ℕ → ℕ → List ℕ
 between s start end = take (end - start) (drop start s)
 
 module _ {s : List ℕ} {at start end : ℕ} {c : Cursor} (p : DelimitedPost s at (Ok (record { start = start; len = end }, c))) where
-  pub part_bounds : (start ≤ c.at) × (c.at ≤ length s)
-  part_bounds = (omega (arith, p.placed.1), p.read.inside.1)
-
   pub part_is : between s start c.at ≡ take end (drop start s)
   part_is = ap (λ (n : ℕ). take n (drop start s)) (let e : c.at - start ≡ end = omega (arith, p.placed.1) in e)
 

@@ -145,10 +145,6 @@ module _ {s : List ℕ} {start at w x : ℕ} (n : ℕ) (g : Begun 10 s start at 
         inside = (omega (arith, g.on), omega arith);
       }
 
--- A varint at its first byte.
-pub no_byte : {s : List ℕ} {at : ℕ} → length s ≤ at → VarintPost s at (Err Truncated)
-no_byte {s} {at} h = cut_post 9 (begun_none 10 s at) h
-
 pub one_byte : {s : List ℕ} {at b : ℕ} → at < length s → b ≡ get_or s at 0 → b < 128 → VarintPost s at (Ok (b, record { at = at + 1 }))
 one_byte {s} {at} h e l = last_post 9 (begun_none 10 s at) h e l (omega arith)
 
@@ -158,9 +154,6 @@ pub record Reading (s : List ℕ) (start at n acc : ℕ) : Type 0 where
   pub exact : ℕ
   pub begun : Begun 10 s start at (10 - n) (2 ^ (7 * n)) exact
   pub low : acc ≡ exact % 2 ^ 64
-
-pub reading_none : (s : List ℕ) (start : ℕ) → Reading s start start 0 0
-reading_none s start = record { few = omega arith; exact = 0; begun = begun_none 10 s start; low = refl }
 
 module _ {s : List ℕ} {start at n acc : ℕ} (r : Reading s start at n acc) where
   left : (m : ℕ) → 10 - n ≡ m → Begun 10 s start at m (2 ^ (7 * n)) r.exact

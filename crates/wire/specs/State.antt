@@ -6,7 +6,7 @@ use Rattle.wire.specs.declared.varint.Cursor.{Cursor}
 use Rattle.wire.specs.declared.fields.Part.{Part}
 use Rattle.wire.specs.declared.state.HllFields.{HllFields}
 use Rattle.wire.specs.declared.state.Fields.{Fields}
-use Rattle.wire.specs.Reading.{Read, got, refused, and_then, answer_of, ReadPost}
+use Rattle.wire.specs.Reading.{Read, got, and_then, answer_of, ReadPost}
 use Rattle.wire.specs.Varints.{varint64}
 use Rattle.wire.specs.Fields.{tag, VARINT, LEN, delimited_of, skip_of, field_of, message_of}
 

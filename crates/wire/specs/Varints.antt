@@ -1,6 +1,6 @@
 -- Varints, from the Protocol Buffers encoding document, section "Base 128 Varints". Every definition has a width: the largest number
 -- of bytes. A state's varints have width 10, a list's gaps width 5.
-use Rattle.std.specs.Prelude.{◌≡◌, List, [], ◌∷◌, cond, ℕ, zero, suc, ◌+◌, ◌*◌, ◌/◌, ◌%◌, ◌^◌, ltb, length, drop, Result}
+use Rattle.std.specs.Prelude.{◌≡◌, List, [], ◌∷◌, cond, ℕ, zero, suc, ◌+◌, ◌*◌, ◌/◌, ◌%◌, ◌^◌, ltb, length, Result}
 use Rattle.std.proofs.lemmas.List.Edits.{sets}
 use Rattle.wire.specs.declared.read_error.ReadError.{ReadError}
 use Rattle.wire.specs.declared.varint.Cursor.{Cursor}

@@ -1,6 +1,6 @@
 // Reading a state. Ported from `parse`, `parse_general` and `parse_hll` of `StateView` in src/proto.rs of zetasketch-rs at commit
 // 9abe68bf87 (Apache-2.0, see NOTICE). Changed: the fields are a struct by value with the positions of the two data fields, and a turn of
-// each loop is a function. `StateView` itself, the fields with the caller's bytes, is in view.rt.
+// each loop is a function, and a cursor that jumps is no count for a `for`. `StateView` itself, the fields with the caller's bytes, is in view.rt.
 ghost use Rattle.std.specs.Prelude.{◌≡◌, List, ℕ, ◌+◌, ◌<◌, ◌^◌, length};
 ghost use Rattle.wire.specs.Compact.{CompactPost};
 ghost use Rattle.wire.specs.State.{state_of, empty_state, HllInside, ParsePost, StepPost, HllStepPost, HllPost};
@@ -152,7 +152,8 @@ fn hll_field(
 }
 
 // The nested message, which is a part of the state's bytes that starts at `base`. What was read of an earlier one stays where this one
-// has no field for it.
+// has no field for it. ((d) This loop, that of `parse_general` and the two of compact.rt stay four: a function over a closure or a trait for the
+// turn wants a contract at each of the four turns, and spares four lines in each.)
 fn parse_hll(m: &[u8], base: usize, earlier: HllFields) -> Result<HllFields, ReadError>
     requires { base + length m.now < 2 ^ 64 }
     ensures { HllPost m.now base earlier result }

@@ -6,9 +6,8 @@ ghost use Rattle.std.specs.Prelude.{◌≤◌, length};
 
 use console::text;
 use std::io::Stdout;
-use wire::encoding::Encoded;
-use wire::state::{Fields, Parsed};
-use wire::varint::{Cursor, Varint};
+use wire::varint::Cursor;
+use wire::view::StateView;
 
 // What an output is filled with, to see which of its bytes are written.
 const FILL: u8 = 165;
@@ -29,7 +28,8 @@ fn print_part(stdout: Stdout, present: bool, bytes: &[u8]) {
     }
 }
 
-fn print_fields(stdout: Stdout, bytes: &[u8], f: Fields) {
+fn print_fields(stdout: Stdout, view: StateView) {
+    let f = view.fields;
     let h = f.hll;
     print_signed(stdout, console::output::widened(f.aggregator_type));
     print_signed(stdout, f.num_values);
@@ -38,34 +38,27 @@ fn print_fields(stdout: Stdout, bytes: &[u8], f: Fields) {
     print_signed(stdout, console::output::widened(h.sparse_size));
     print_signed(stdout, console::output::widened(h.precision));
     print_signed(stdout, console::output::widened(h.sparse_precision));
-    print_part(stdout, h.data_present, wire::state::data(bytes, f));
+    print_part(stdout, h.data_present, view.data());
     text::space(stdout);
-    print_part(
-        stdout,
-        h.sparse_data_present,
-        wire::state::sparse_data(bytes, f),
-    );
+    print_part(stdout, h.sparse_data_present, view.sparse_data());
 }
 
 fn parse_case(stdout: Stdout, bytes: &[u8]) {
-    let r = wire::state::parse(bytes);
-    match r {
-        Parsed::Read(f) => print_fields(stdout, bytes, f),
-        Parsed::Refused(n) => text::print_refused(stdout, n),
+    match StateView::parse(bytes) {
+        Ok(view) => print_fields(stdout, view),
+        Err(e) => text::print_refused(stdout, e as u8),
     }
     text::end_line(stdout);
 }
 
 fn varint_case(stdout: Stdout, at: usize, bytes: &[u8]) {
-    let r = wire::varint::read_varint(bytes, Cursor { at });
-    match r {
-        Varint::Value(v, next) => {
+    match wire::varint::read_varint(bytes, Cursor { at }) {
+        Ok((v, next)) => {
             text::print_number(stdout, v);
             text::space(stdout);
             text::print_number(stdout, next.at as u64);
         }
-        Varint::Cut => text::print_refused(stdout, 3),
-        Varint::Long => text::print_refused(stdout, 4),
+        Err(e) => text::print_refused(stdout, e as u8),
     }
     text::end_line(stdout);
 }
@@ -105,8 +98,7 @@ fn print_written(stdout: Stdout, n: usize, out: &[u8])
 
 // Written again into the first `size` bytes of `out`.
 fn encode_case(stdout: Stdout, size: usize, bytes: &[u8], out: &mut [u8]) {
-    let p = wire::state::parse(bytes);
-    let Parsed::Read(f) = p else {
+    let Ok(view) = StateView::parse(bytes) else {
         text::bad_case(stdout);
         return;
     };
@@ -114,11 +106,10 @@ fn encode_case(stdout: Stdout, size: usize, bytes: &[u8], out: &mut [u8]) {
         text::bad_case(stdout);
         return;
     }
-    let r = wire::encoding::encode(bytes, f, &mut out[..size]);
-    match r {
-        Encoded::Written(n) => print_written(stdout, n, &out[..]),
-        Encoded::Short => {
-            text::print_refused(stdout, 23);
+    match view.encode(&mut out[..size]) {
+        Ok(n) => print_written(stdout, n, &out[..]),
+        Err(e) => {
+            text::print_refused(stdout, e as u8);
             print_touched(stdout, &out[..]);
         }
     }

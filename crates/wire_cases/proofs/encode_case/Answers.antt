@@ -9,4 +9,4 @@ pub slice_bounds-encode-end-2 : goal.slice_bounds-encode-end-2
 slice_bounds-encode-end-2 c = sym (length-take-le c.args.size c.args.out.now (search rules))
 
 pub print_written-requires : goal.print_written-requires
-print_written-requires c = written_inside _ _ c.encode-r.new.out _ c.encode-r.result c.in-Written.n c.in-Written.is c.encode-r.ensures
+print_written-requires c = written_inside _ _ c.encode.new.out _ c.encode.result c.in-Ok-encode.n c.in-Ok-encode.is c.encode.ensures

@@ -1,6 +1,5 @@
 -- `82 07` is the tag of field 112, the byte behind it is a length that fits, and `compact_hll` answers for the bytes of that length.
 use mathlib.Core.Path.{refl}
-use native.Mathlib.Omega.{arith}
 use Rattle.std.proofs.Common.{rules}
 use Rattle.wire.proofs.StateLaws.{nested_read}
 use Rattle.wire.proofs.CompactLaws.{small_bytes, nested_tag}

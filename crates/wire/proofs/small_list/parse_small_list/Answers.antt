@@ -1,5 +1,5 @@
 -- Each byte is the one that the pattern names, and the nested message stands at 6, or at 8 behind a value type.
-use Rattle.std.proofs.Common.{rules, ◌≡◌, ◌-◌, List, ℕ, length, take, drop}
+use Rattle.std.proofs.Common.{rules, ◌-◌, List, ℕ, length, take, drop}
 use mathlib.Core.Path.{ap, refl, sym, ◌∙◌}
 use Rattle.wire.proofs.SmallListLaws.{SmallBytes, SmallFront, SmallPlace, rest_length, no_value_type, with_value_type, small_list_got}
 use Rattle.wire.proofs.small_list.parse_small_list.Goals.{in-32, in_default-rest}

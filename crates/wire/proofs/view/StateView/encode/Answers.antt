@@ -16,9 +16,9 @@ returns-then-out-dense c =
     let dense : length c.data-dense.result.now ≡ length (bytes_or_none state.hll.«data») = ap (λ (l : List ℕ). length l) c.data-dense.ensures in
     let sparse : length c.sparse_data-sparse.result.now ≡ length (bytes_or_none state.hll.sparse_data) = ap (λ (l : List ℕ). length l) c.sparse_data-sparse.ensures in
     let short : length c.args.out.now < length (encode_of state) = elim c.then-out-dense.branch [
-      then-out-dense-via-then-out-dense w ↦ omega (arith, encode_ge state, dense, w.if-out-dense.true)
-    | then-out-dense-via-else-out-dense+then-out-dense-2 w ↦ omega (arith, encode_ge state, dense, sparse, w.if-out-dense.false, w.if-out-dense-2.true)
-    | then-out-dense-via-else-out-dense+else-out-dense-2+then-out-encoded_len w ↦ omega (arith, w.encoded_len.ensures, w.if-out-encoded_len.true)
+      | then-out-dense-via-then-out-dense w ↦ omega (arith, encode_ge state, dense, w.if-out-dense.true)
+      | then-out-dense-via-else-out-dense+then-out-dense-2 w ↦ omega (arith, encode_ge state, dense, sparse, w.if-out-dense.false, w.if-out-dense-2.true)
+      | then-out-dense-via-else-out-dense+else-out-dense-2+then-out-encoded_len w ↦ omega (arith, w.encoded_len.ensures, w.if-out-encoded_len.true)
     ] in
     encode_short state c.args.out.now short
 
