@@ -151,16 +151,13 @@ module _ (p s last v : ℕ) where
   abbrev unfit : Bool
   unfit = unfit_rank p s v
 
-  pub refused_less : v < last → true ≡ refused_here p s last v
-  refused_less h = sym (ap (λ (t : Bool). t || (marked p s v && unfit)) (lt-ltb v last h))
-
   by_rank : last ≤ v → (marked p s v && unfit) ≡ refused_here p s last v
   by_rank h = sym (ap (λ (t : Bool). t || (marked p s v && unfit)) (le-ltb v last h))
 
-  pub refused_plain : last ≤ v → marked p s v ≡ false → false ≡ refused_here p s last v
+  refused_plain : last ≤ v → marked p s v ≡ false → false ≡ refused_here p s last v
   refused_plain h m = sym (ap (λ (t : Bool). t && unfit) m) ∙ by_rank h
 
-  pub refused_rank : last ≤ v → marked p s v ≡ true → unfit ≡ refused_here p s last v
+  refused_rank : last ≤ v → marked p s v ≡ true → unfit ≡ refused_here p s last v
   refused_rank h m = sym (ap (λ (t : Bool). t && unfit) m) ∙ by_rank h
 
   -- What is not.

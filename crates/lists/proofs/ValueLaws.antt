@@ -426,14 +426,8 @@ truth_turned x y =
     ⊎_elim (λ (h : y < x). ap bool_byte (lt-leb x y h) ∙ sym (ap (λ (t : Bool). cond t 0 1) (lt-ltb y x h)))
     (λ (h : x ≤ y). ap bool_byte (le-leb x y h) ∙ sym (ap (λ (t : Bool). cond t 0 1) (le-ltb y x h))) (side y x)
 
--- The least low six bits, and the end of the plain values by it.
+-- The end of the plain values, by the least low six bits.
 module _ (p s : ℕ) where
-  pub code_least_one : s ≡ p → (1 ≡ least_marked_rank p s) × (1 ≤ 1)
-  code_least_one e = (sym (least_one p s e), le_refl 1)
-
-  pub code_least_none : (s ≡ p → ⊥) → (0 ≡ least_marked_rank p s) × (0 ≤ 1)
-  code_least_none n = (sym (least_none p s n), zero-le)
-
   pub code_plain_end : {least : ℕ} → Pair p s → least ≡ least_marked_rank p s → ((1 - least) * 2 ^ s) % 2 ^ 32 ≡ plain_end p s
   code_plain_end {least} pair e =
       ⊎_elim

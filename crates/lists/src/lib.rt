@@ -1,7 +1,7 @@
 // Values, ranks, lists and registers (document 01, modules 3 and 4).
 //
 // Ported from src/encoding.rs of zetasketch-rs at commit 9abe68bf87 (Apache-2.0, see NOTICE), without hashing and the unvalidated
-// decoders. Changed: lent slices and counts in the place of `Vec`, enums and document 01's numbers in the place of `Result` and strings, and a
+// decoders. Changed: lent slices and counts in the place of `Vec`, an error with document 01's numbers in the place of one with strings, and a
 // contract on every function.
 #![tactic(auto)]
 

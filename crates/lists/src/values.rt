@@ -1,7 +1,7 @@
 // Values of a sparse list and their ranks. Ported from `Sparse`, `compute_rho_w` and `downgrade_rho_w` in src/encoding.rs of zetasketch-rs at
-// commit 9abe68bf87 (Apache-2.0, see NOTICE). Changed: unsigned precisions, the difference of two precisions in
-// the place of both, low bits masked in the place of shifted up, and a contract on every function. With s = p no plain value and none
-// with m = 0 is valid, so that the rank by no bits has no case of its own (document 02, U3).
+// commit 9abe68bf87 (Apache-2.0, see NOTICE). Changed: unsigned precisions, the difference of two precisions in the place of both, low bits
+// masked in the place of shifted up, and a contract on every function. With s = p no plain value and none with m = 0 is valid, so that the
+// rank by no bits has no case of its own (document 02, U3).
 ghost use Rattle.std.specs.Prelude.{◌≡◌, ◌+◌, ◌<◌, ◌≤◌, true};
 ghost use Rattle.lists.specs.Values.{Pair, IndexPost, RankPost, mark, marked, plain_end, marked_end, least_marked_rank, marked_rank_fits, valid, sparse_index, plain_rank, largest_rank, lowered_rank};
 

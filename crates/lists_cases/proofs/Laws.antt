@@ -1,8 +1,8 @@
 -- What answers count lies inside the memory that was lent; what the tests of operands find; and what the functions of `lists` then ask.
 use Prim.Native.Nat.{ℕ, ◌+◌, ◌-◌, ◌^◌, ◌<◌, ◌≤◌}
-use mathlib.Core.Path.{◌≡◌, sym, ap, ◌∙◌, subst}
+use mathlib.Core.Path.{◌≡◌, sym, ap, subst}
 use mathlib.Core.List.{List}
-use mathlib.Core.Bool.{Bool, true, false, true≢false}
+use mathlib.Core.Bool.{true}
 use native.Mathlib.Omega.{arith}
 use lib.ListN.{length, take, length-take}
 use Rattle.std.specs.Counts.{IsPrefixLen}
@@ -97,7 +97,7 @@ module _ (enc : Sparse) where
       → 4 ≤ q → q ≤ enc.normal_precision → SetListPre enc (enc.normal_precision - q) list bytes
   can_set list bytes q ok holds low h =
       let e : enc.normal_precision - (enc.normal_precision - q) ≡ q = omega arith in record {
-            ok = ok;
+        ok = ok;
         few = omega (arith, enc.pair.high);
         fewer = omega arith;
         room = subst (λ (x : ℕ). register_bytes x ≤ length bytes) (sym e) holds.room;

@@ -49,8 +49,7 @@ fn print_facts(stdout: Stdout, enc: Sparse, v: u32)
     print_lower(stdout, enc.normal_precision, index, rank);
 }
 
-fn value_case(stdout: Stdout, enc: Sparse, v: u32)
-{
+fn value_case(stdout: Stdout, enc: Sparse, v: u32) {
     text::print_bool(stdout, enc.is_rho_encoded(v));
     text::space(stdout);
     let ok = enc.is_valid(v);
@@ -61,8 +60,7 @@ fn value_case(stdout: Stdout, enc: Sparse, v: u32)
     text::end_line(stdout);
 }
 
-fn value_line(stdout: Stdout, enc: Sparse, line: &[u8])
-{
+fn value_line(stdout: Stdout, enc: Sparse, line: &[u8]) {
     match text::read_value(text::word(line, 3)) {
         text::Value::Is(v) => value_case(stdout, enc, v),
         text::Value::Other => text::bad_case(stdout),
@@ -71,8 +69,7 @@ fn value_line(stdout: Stdout, enc: Sparse, line: &[u8])
 
 // ---- lists
 
-fn decode_case(stdout: Stdout, enc: Sparse, bytes: &[u8])
-{
+fn decode_case(stdout: Stdout, enc: Sparse, bytes: &[u8]) {
     let mut values = [0u32; 512];
     if 512 < bytes.len() {
         text::bad_case(stdout);
@@ -85,8 +82,7 @@ fn decode_case(stdout: Stdout, enc: Sparse, bytes: &[u8])
     text::end_line(stdout);
 }
 
-fn decode_line(stdout: Stdout, enc: Sparse, line: &[u8])
-{
+fn decode_line(stdout: Stdout, enc: Sparse, line: &[u8]) {
     let mut bytes = console::memory::buffer();
     let r = console::input::read_bytes(text::word(line, 3), &mut bytes);
     let console::input::Bytes::Count(n) = r else {
@@ -186,8 +182,7 @@ fn merges(enc: Sparse, l: &[u32]) -> bool
     enc.all_valid(l)
 }
 
-fn merge_case(stdout: Stdout, enc: Sparse, a: &[u32], b: &[u32])
-{
+fn merge_case(stdout: Stdout, enc: Sparse, a: &[u32], b: &[u32]) {
     if !merges(enc, a) {
         text::bad_case(stdout);
         return;
@@ -201,8 +196,7 @@ fn merge_case(stdout: Stdout, enc: Sparse, a: &[u32], b: &[u32])
     print_merged(stdout, &out[..r.len], r.bytes);
 }
 
-fn merge_line(stdout: Stdout, enc: Sparse, line: &[u8])
-{
+fn merge_line(stdout: Stdout, enc: Sparse, line: &[u8]) {
     let mut a = [0u32; 512];
     let r = text::read_list(text::word(line, 3), &mut a);
     let text::Listed::Count(n) = r else {
@@ -264,8 +258,7 @@ fn insert_case(
     print_merged(stdout, &union[..r.len], r.bytes);
 }
 
-fn insert_line(stdout: Stdout, enc: Sparse, line: &[u8])
-{
+fn insert_line(stdout: Stdout, enc: Sparse, line: &[u8]) {
     let mut union = [0u32; 1024];
     let r = text::read_list(text::word(line, 4), &mut union);
     let text::Listed::Count(n) = r else {
@@ -291,8 +284,7 @@ fn insert_line(stdout: Stdout, enc: Sparse, line: &[u8])
     }
 }
 
-fn count_case(stdout: Stdout, enc: Sparse, list: &[u32])
-{
+fn count_case(stdout: Stdout, enc: Sparse, list: &[u32]) {
     if !merges(enc, list) {
         text::bad_case(stdout);
         return;
@@ -305,8 +297,7 @@ fn count_case(stdout: Stdout, enc: Sparse, list: &[u32])
     text::end_line(stdout);
 }
 
-fn count_line(stdout: Stdout, enc: Sparse, line: &[u8])
-{
+fn count_line(stdout: Stdout, enc: Sparse, line: &[u8]) {
     let mut list = [0u32; 512];
     let r = text::read_list(text::word(line, 3), &mut list);
     let text::Listed::Count(n) = r else {
@@ -339,8 +330,7 @@ fn print_registers(stdout: Stdout, p: u32, registers: &[u8]) {
 }
 
 // The listed values raise registers of precision q.
-fn set_case(stdout: Stdout, enc: Sparse, q: u32, registers: &mut [u8], list: &[u32])
-{
+fn set_case(stdout: Stdout, enc: Sparse, q: u32, registers: &mut [u8], list: &[u32]) {
     let p = enc.normal_precision;
     if p < q {
         text::bad_case(stdout);
@@ -362,8 +352,7 @@ fn set_case(stdout: Stdout, enc: Sparse, q: u32, registers: &mut [u8], list: &[u
     print_registers(stdout, q, &registers[..]);
 }
 
-fn set_line(stdout: Stdout, enc: Sparse, line: &[u8])
-{
+fn set_line(stdout: Stdout, enc: Sparse, line: &[u8]) {
     let mut registers = console::memory::buffer();
     let r = console::input::read_bytes(text::word(line, 4), &mut registers);
     let console::input::Bytes::Count(n) = r else {
@@ -467,8 +456,7 @@ fn lower_line(stdout: Stdout, line: &[u8]) {
 // ---- lines
 
 // A case of a pair of precisions.
-fn pair_case(stdout: Stdout, kind: u8, enc: Sparse, line: &[u8])
-{
+fn pair_case(stdout: Stdout, kind: u8, enc: Sparse, line: &[u8]) {
     match kind {
         b'v' => value_line(stdout, enc, line),
         b'd' => decode_line(stdout, enc, line),
