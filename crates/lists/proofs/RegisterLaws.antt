@@ -1,18 +1,18 @@
 -- Registers in memory: how they lie, and the loops over them.
-use Rattle.std.proofs.Common.{◌≡◌, ℕ, suc, ◌+◌, ◌-◌, ◌*◌, ◌/◌, ◌%◌, ◌^◌, ◌<◌, ◌≤◌, max, Bool, true, cond, not, eqb, ◌⊎◌, List, [], ◌∷◌, ◌++◌, length, get_or, take, drop, set, replicate, sym, refl, ap, ◌∙◌, subst, ap₂, inl, inr, ⊎_elim, append_assoc, append-nil, zero-le, le_trans, le_of_eq, mul-le-mul_right, mod-lt, suc-mul, eq-zero-or-pos, le_antisymm, pos_of_ne-zero, pow-suc, add-sub_cancel, add-one, arith, length-append, length-drop, length-set, take-append-drop, drop_of_length-le, length-take-le, get_or-drop, take_all, drop-cons, get_or-take, take-suc, take_at, get_or-append-add, drop_at, pow_pos, pow_mono, pow-add, shl_exact, shr_lt, le-ltb, lt-ltb, eq-eqb, ne_eqb}
+use Rattle.std.proofs.Common.{◌≡◌, ℕ, suc, ◌+◌, ◌-◌, ◌*◌, ◌/◌, ◌%◌, ◌^◌, ◌<◌, ◌≤◌, max, Bool, true, false, cond, not, eqb, ◌⊎◌, List, [], ◌∷◌, ◌++◌, length, get_or, take, drop, set, replicate, sym, refl, ap, ◌∙◌, subst, ap₂, inl, inr, ⊎_elim, append_assoc, append-nil, zero-le, le_trans, le_of_eq, mul-le-mul_right, mod-lt, suc-mul, eq-zero-or-pos, le_antisymm, pos_of_ne-zero, pow-suc, add-sub_cancel, add-one, arith, length-append, length-drop, length-set, take-append-drop, drop_of_length-le, length-take-le, get_or-drop, take_all, drop-cons, get_or-take, take-suc, take_at, get_or-append-add, drop_at, pow_pos, pow_mono, pow-add, shl_exact, shr_lt, le-ltb, lt-ltb, eq-eqb, ne_eqb}
 use native.Mathlib.Nat.{max-zero, mul-mod_left}
 use borrow.Rule.Slice.PartMut.{put_mid, Post-is}
 use Rattle.std.specs.Int.{from_bool}
 use lib.ListN.{get_or-append}
 use lib.Seq.{set_at, set-append_left}
-use lib.Pow.{shl-shr, shr_le, split, high, low}
-use lib.Count.{count_leading_zeros, leading_length, leading_unique}
+use lib.Pow.{shl-shr, shr-shr, shr_le, split, high, low}
+use lib.Count.{count_leading_zeros, leading_of_zero, leading_length, leading_unique}
 use Rattle.wire.proofs.VarintLaws.{side}
-use Rattle.lists.proofs.ValueLaws.{wider, lowered_zero, lowered_bits, lowered_bits_le, lowered_register_lem, lowered_register_le, register_zero}
+use Rattle.lists.proofs.ValueLaws.{register_plain, register_lt, rank_plain, lowered_twice, wider, lowered_zero, lowered_bits, lowered_bits_le, lowered_register_lem, lowered_register_le, register_zero}
 use Rattle.lists.proofs.RankLaws.{max_assoc, larger_length, larger_at, largest_upper, lowered_length, lowered_at_lem, lowered_upper, lowered_least, lowered_agree, raised_with, lower_index, lower_rank, lower_none}
 use Rattle.lists.specs.declared.values.Sparse.{Sparse}
 use Rattle.lists.specs.Lists.{all_valid}
-use Rattle.lists.specs.Values.{IndexPost, RankPost, lowered_rank, lowered_register}
+use Rattle.lists.specs.Values.{Pair, marked, valid, register, plain_rank, IndexPost, RankPost, lowered_rank, lowered_register}
 use Rattle.lists.specs.Registers.{register_bytes, registers_of, with_registers, zeros, raise, larger, lowered_at, lowered, not_zero_count, largest, raised_by, raised_lower, lowered_in_place, offset_rank, HoldsFirst, ReadPost, StorePost, RaisePost, BothHold, ScanPre, ScanPost, LowerPre, BlockPre, BlockPost, DowngradePre, SetListPre}
 
 -- ---- how registers lie: these alone know that a register is a byte
@@ -648,7 +648,39 @@ module _ (q : ℕ) (ix rk : ℕ → ℕ) (list before after : List ℕ) (i : ℕ
 pub lower_index_lem : (p d i : ℕ) → d ≤ p → i < 2 ^ p → i / 2 ^ d < 2 ^ (p - d)
 lower_index_lem p d i h l = shr_lt (p - d) d (subst (λ (n : ℕ). i < 2 ^ n) (let e : p ≡ p - d + d = omega arith in e) l)
 
--- One value.
+-- A plain value's rank of k bits is that of 1 lowered by them.
+plain_lowered : (k v : ℕ) → lowered_rank k v 1 ≡ plain_rank k v
+unfolding plain_rank
+plain_lowered k v =
+    ⊎_elim (λ (z : v % 2 ^ k ≡ 0). omega (arith, lowered_zero k v 1 z, ap (count_leading_zeros k) z, leading_of_zero k))
+    (λ (h : 0 < v % 2 ^ k). lowered_bits k v 1 h) (eq-zero-or-pos (v % 2 ^ k))
+
+-- So d bits more give its register and rank d bits lower.
+module _ (p s d v : ℕ) (plain : marked p s v ≡ false) where
+  plain_index : v / 2 ^ (s - p + d) ≡ lower_index p s d v
+  plain_index = sym (shr-shr v (s - p) d) ∙ ap (λ (n : ℕ). n / 2 ^ d) (sym (register_plain p s v plain))
+
+  plain_lower : plain_rank (s - p + d) v ≡ lower_rank p s d v
+  plain_lower =
+      sym (plain_lowered (s - p + d) v)
+      ∙ sym (lowered_twice (s - p) d v 1)
+      ∙ ap₂ (lowered_rank d) (sym (register_plain p s v plain)) (plain_lowered (s - p) v ∙ sym (rank_plain p s v plain))
+
+  module _ (pair : Pair p s) (ok : valid p s v ≡ true) (fewer : d ≤ p) where
+    plain_small : v / 2 ^ (s - p + d) < 2 ^ (p - d)
+    plain_small = subst (λ (n : ℕ). n < 2 ^ (p - d)) (sym plain_index) (lower_index_lem p d (register p s v) fewer (register_lt p s v pair ok))
+
+    pub plain_held : (bytes : List ℕ) → register_bytes (p - d) ≤ length bytes → HoldsFirst (v / 2 ^ (s - p + d) + 1) bytes
+    plain_held bytes room = first_held (p - d) (v / 2 ^ (s - p + d)) bytes room plain_small
+
+    pub set_plain : (x : ℕ) (before after : List ℕ) → register_bytes (p - d) ≤ length before → x ≡ plain_rank (s - p + d) v
+        → RaisePost before (v / 2 ^ (s - p + d)) x after
+        → after ≡ with_registers (p - d) (raise (registers_of (p - d) before) (lower_index p s d v) (lower_rank p s d v)) before
+    set_plain x before after room e raised =
+        raised.raised (p - d) room plain_small
+        ∙ ap₂ (λ (a b : ℕ). with_registers (p - d) (raise (registers_of (p - d) before) a b) before) plain_index (e ∙ plain_lower)
+
+-- One marked value.
 pub set_one : (p s d v i r x : ℕ) (before after : List ℕ) → d ≤ p → register_bytes (p - d) ≤ length before → IndexPost p s v i → RankPost p s v r
     → x ≡ lowered_rank d i r → RaisePost before (i / 2 ^ d) x after
     → after ≡ with_registers (p - d) (raise (registers_of (p - d) before) (lower_index p s d v) (lower_rank p s d v)) before

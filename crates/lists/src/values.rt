@@ -117,7 +117,7 @@ impl Sparse {
 
 // 1 plus the leading zeros of the low bits.
 pub fn compute_rho_w(value: u32, bits: u32) -> u8
-    requires { bits ≤ 21 }
+    requires { bits ≤ 25 }
     ensures { result ≡ plain_rank bits value }
 {
     let low = value & ((1 << bits) - 1);
