@@ -17,12 +17,6 @@ use Rattle.rollup.specs.Stages.{LowerOwnPre, LowerOwnPost, RaiseByRowPre, RaiseB
 
 -- ---- the smaller as signed numbers
 
-pub signed_second : (x y a b : ℕ) → a ≡ (x + 2 ^ 31) % 2 ^ 32 → b ≡ (y + 2 ^ 31) % 2 ^ 32 → b < a → y ≡ signed_min x y
-signed_second x y a b e f h = sym (ap (λ (t : Bool). cond t y x) (ap₂ ltb (sym f) (sym e) ∙ lt-ltb b a h))
-
-pub signed_first : (x y a b : ℕ) → a ≡ (x + 2 ^ 31) % 2 ^ 32 → b ≡ (y + 2 ^ 31) % 2 ^ 32 → a ≤ b → x ≡ signed_min x y
-signed_first x y a b e f h = sym (ap (λ (t : Bool). cond t y x) (ap₂ ltb (sym f) (sym e) ∙ le-ltb b a h))
-
 -- ---- the roll-up's own registers
 
 -- Lowered by no bits, they are as they were.
@@ -136,29 +130,6 @@ module _ (q p s : ℕ) (vs registers : List ℕ) (pre : RaiseByListPre q p s vs 
 module _ (q : ℕ) (x : Incoming) (row vs registers : List ℕ) (pre : RaisePre q x row vs registers) where
   abbrev p : ℕ
   p = x.precision
-
-  abbrev Raised : List ℕ → Bool → Type 0
-  Raised after t =
-      after
-      ≡ with_registers q
-      (cond t (raised_lower p x.sparse_precision (p - q) (registers_of q registers) vs) (larger (registers_of q registers) (lowered (p - q) q row)))
-      registers
-
-  pub raise_list : length row ≡ 0 → RaiseByListPre q p x.sparse_precision vs registers
-  raise_list h = record { low = pre.low; order = pre.order; pair = pre.lowers.pair h; all = pre.lowers.all; room = pre.room }
-
-  pub raised_list : (after : List ℕ) → length row ≡ 0
-      → after ≡ with_registers q (raised_lower p x.sparse_precision (p - q) (registers_of q registers) vs) registers
-      → after ≡ with_registers q (raised_to q x row vs (registers_of q registers)) registers
-  raised_list after h = subst (Raised after) (sym (eq-eqb (length row) 0 h))
-
-  pub raise_row : (length row ≡ 0 → ⊥) → RaiseByRowPre q p row registers
-  raise_row h = record { order = pre.order; high = pre.lowers.high; size = pre.lowers.size (pos_of_ne-zero h); small = pre.lowers.small; room = pre.room }
-
-  pub raised_row : (after : List ℕ) → (length row ≡ 0 → ⊥)
-      → after ≡ with_registers q (larger (registers_of q registers) (lowered (p - q) q row)) registers
-      → after ≡ with_registers q (raised_to q x row vs (registers_of q registers)) registers
-  raised_row after h = subst (Raised after) (sym (ne_eqb (length row) 0 h))
 
 -- ---- a dense roll-up
 

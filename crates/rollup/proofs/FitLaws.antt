@@ -22,13 +22,6 @@ use Rattle.rollup.specs.Accumulator.{Mem, kept_of, waiting_of, limit, max_pendin
 pub both_yes : {a : Bool} (b : Bool) → a ≡ true → a && b ≡ b
 both_yes b e = ap (λ (x : Bool). x && b) e
 
-pub both_no : {a : Bool} (b : Bool) → a ≡ false → a && b ≡ false
-both_no b e = ap (λ (x : Bool). x && b) e
-
-denied : (b : Bool) → (b ≡ true → ⊥) → b ≡ false
-denied true f = absurd (f refl)
-denied false f = refl
-
 pub above_zero : (n : ℕ) → not (eqb n 0) ≡ true → 0 < n
 above_zero n e = pos_of_ne-zero (eqb-false n 0 (not-true (eqb n 0) e))
 
@@ -151,15 +144,7 @@ module _ (a : Accumulator) (cells waitingCells : ℕ) where
   pub counts_of : counts_fit a cells waitingCells ≡ true → Counts a cells waitingCells
   counts_of e = (counts_all e).0
 
-  pub counts_no : (Counts a cells waitingCells → ⊥) → false ≡ counts_fit a cells waitingCells
-  counts_no f = sym (denied (counts_fit a cells waitingCells) (λ (e : counts_fit a cells waitingCells ≡ true). f (counts_of e)))
-
 -- ---- the lists
-
--- What is told of values by an encoding is told of them by its precisions.
-pub valid_by : {p s : ℕ} {enc : Encoding} {r : Bool} (l : List ℕ) → NewPost p s enc
-    → r ≡ all_valid enc.normal_precision enc.sparse_precision l → r ≡ all_valid p s l
-valid_by l x e = e ∙ ap₂ (λ (y z : ℕ). all_valid y z l) x.normal x.sparse
 
 module _ (a : Accumulator) (kept waiting : List ℕ) where
   pub record Lists : Type 0 where
@@ -181,20 +166,9 @@ module _ (a : Accumulator) (kept waiting : List ℕ) where
       let e₁ = both_true c₁ c₂ e₂.0 in
       (record { kept_valid = e₁.0; waiting_valid = e₁.1; order = e₂.1 }, e₃.1)
 
-  pub lists_no : (Lists → ⊥) → false ≡ lists_fit a kept waiting
-  lists_no f = sym (denied (lists_fit a kept waiting) (λ (e : lists_fit a kept waiting ≡ true). f (lists_all e).0))
-
 -- ---- the registers
 
 -- The code's test for enough register bytes.
-module _ (bytes : List ℕ) (want p : ℕ) (e : want ≡ register_bytes p) where
-  pub few_bytes : length bytes < want → false ≡ registers_fit p bytes
-  few_bytes h = sym (both_no (leb (largest (registers_of p bytes)) (largest_rank p)) (lt-leb (register_bytes p) (length bytes) (omega arith)))
-
-  pub enough_bytes : (most top : ℕ) → most ≡ largest (registers_of p bytes) → top ≡ largest_rank p → want ≤ length bytes → leb most top ≡ registers_fit p bytes
-  enough_bytes most top f g h =
-      ap₂ leb f g
-      ∙ sym (both_yes (leb (largest (registers_of p bytes)) (largest_rank p)) (le-leb (register_bytes p) (length bytes) (omega arith)))
 
 -- ---- all of it, taken apart and put together
 

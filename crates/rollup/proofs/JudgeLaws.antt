@@ -35,9 +35,6 @@ use Rattle.rollup.proofs.FitLaws.{both_yes, both_no, above_zero, range_of, range
 
 -- ---- Bools
 
-pub either_yes : {a : Bool} (b : Bool) → a ≡ true → true ≡ a || b
-either_yes b e = sym (ap (λ (x : Bool). x || b) e)
-
 pub either_no : {a : Bool} (b : Bool) → a ≡ false → b ≡ a || b
 either_no b e = sym (ap (λ (x : Bool). x || b) e)
 
@@ -57,13 +54,6 @@ empty_no l h = ne_eqb (length l) 0 h
 not_empty : (l : List ℕ) → 0 < length l → is_empty l ≡ false
 not_empty l h = empty_no l (λ (e : length l ≡ 0). let z : ⊥ = omega arith in z)
 
--- What `has_data` and `has_sparse_data` answer of a list of bytes.
-pub said_none : (l : List ℕ) {r : Bool} → r ≡ not (is_empty l) → not r ≡ true → is_empty l ≡ true
-said_none l e h = not-false (is_empty l) (said_no e h)
-
-pub said_some : (l : List ℕ) {r : Bool} → r ≡ not (is_empty l) → not r ≡ false → is_empty l ≡ false
-said_some l e h = not-true (is_empty l) (said_yes e h)
-
 -- ---- questions in a row
 
 pub go : {b : Bool} (n next : ℕ) → b ≡ true → ask b n next ≡ next
@@ -79,8 +69,6 @@ asked false n next e = absurd (let z : ⊥ = omega arith in z)
 
 -- Some that were answered with n, and others that follow.
 module _ (n k next : ℕ) (e : n ≡ k) where
-  first_stop : (n ≡ 0 → ⊥) → n ≡ first_no k next
-  first_stop h = e ∙ sym (stop k next (ne_eqb k 0 (λ (z : k ≡ 0). h (e ∙ z))))
 
   first_go : n ≡ 0 → first_no k next ≡ next
   first_go z = go k next (eq-eqb k 0 (sym e ∙ z))
@@ -128,32 +116,7 @@ mask_8 t e = rw e
 pub mask_other : (t : ℕ) → (t ≡ 0 → ⊥) → (t ≡ 7 → ⊥) → (t ≡ 8 → ⊥) → 12 ≡ mask_of t
 mask_other t a b c = rw (ne_eqb t 0 a, ne_eqb t 7 b, ne_eqb t 8 c)
 
-pub type_known : (t n : ℕ) → t ≡ n → is_value_type n ≡ true → true ≡ is_value_type t
-type_known t n e h = sym (ap is_value_type e ∙ h)
-
-pub type_other : (t : ℕ) → (t ≡ 0 → ⊥) → (t ≡ 7 → ⊥) → (t ≡ 8 → ⊥) → (t ≡ 11 → ⊥) → false ≡ is_value_type t
-type_other t a b c d = rw (ne_eqb t 0 a, ne_eqb t 7 b, ne_eqb t 8 c, ne_eqb t 11 d)
-
 -- ---- 7 to 9
-
-module _ (st : State) where
-  pub kind_7 : (st.aggregator_type ≡ state_type → ⊥) → 7 ≡ kind_answer st
-  unfolding kind_answer
-  kind_7 h = sym (stop 7 _ (ne_eqb _ _ h))
-
-  module _ (a : st.aggregator_type ≡ state_type) where
-    pub kind_8 : (st.encoding_version ≡ state_version → ⊥) → 8 ≡ kind_answer st
-    unfolding kind_answer
-    kind_8 h = sym (go 7 _ (eq-eqb _ _ a) ∙ stop 8 _ (ne_eqb _ _ h))
-
-    module _ (v : st.encoding_version ≡ state_version) where
-      pub kind_9 : is_value_type st.value_type ≡ false → 9 ≡ kind_answer st
-      unfolding kind_answer
-      kind_9 h = sym (go 7 _ (eq-eqb _ _ a) ∙ go 8 _ (eq-eqb _ _ v) ∙ stop 9 0 h)
-
-      pub kind_0 : is_value_type st.value_type ≡ true → 0 ≡ kind_answer st
-      unfolding kind_answer
-      kind_0 h = sym (go 7 _ (eq-eqb _ _ a) ∙ go 8 _ (eq-eqb _ _ v) ∙ go 9 0 h)
 
 -- ---- 10 to 13
 
@@ -170,50 +133,12 @@ from11 st = ask (normal_range st.hll.precision) 11 (from12 st)
 abbrev pub from10 : State → ℕ
 from10 st = ask (list_has_precision st) 10 (from11 st)
 
-module _ (st : State) (k : ℕ) (e : k ≡ kind_answer st) where
-  pub kind_no : (k ≡ 0 → ⊥) → k ≡ structure_answer st
-  unfolding structure_answer
-  kind_no = first_stop k (kind_answer st) (from10 st) e
-
-  pub kind_yes : k ≡ 0 → structure_answer st ≡ from10 st
-  unfolding structure_answer
-  kind_yes = first_go k (kind_answer st) (from10 st) e
-
--- 12, from the length of the part that holds the data.
-pub sized_none : (d l : List ℕ) (n : ℕ) → d ≡ l → length d ≡ 0 → true ≡ is_empty l || eqb (length l) n
-sized_none d l n e h = either_yes _ (empty_yes l (sym (ap length e) ∙ h))
-
-pub sized_some : (d l : List ℕ) (p : ℕ) → p ≤ 24 → d ≡ l → (length d ≡ 0 → ⊥)
-    → eqb (length d) ((1 * 2 ^ p) % 2 ^ 64) ≡ is_empty l || eqb (length l) (2 ^ p)
-sized_some d l p k e h =
-    ap (λ (n : ℕ). eqb (length d) n) (count_is 64 p k (omega arith)).0 ∙ ap (λ (x : List ℕ). eqb (length x) (2 ^ p)) e
-    ∙ either_no (eqb (length l) (2 ^ p)) (empty_no l (λ (z : length l ≡ 0). h (ap length e ∙ z)))
-
 -- Whether 13 is asked, of a state without list bytes.
-module _ (st : State) (e : not (is_empty (list_of st)) ≡ false) where
-  pub needs_data : not (is_empty (data_of st)) ≡ true → false ≡ needs_pair st
-  needs_data f = sym (both_no _ (not-true (is_empty (data_of st)) f)) ∙ either_no _ e
-
-  pub needs_sparse : not (is_empty (data_of st)) ≡ false → not (eqb st.hll.sparse_precision 0) ≡ needs_pair st
-  needs_sparse f = sym (both_yes _ (not-false (is_empty (data_of st)) f)) ∙ either_no _ e
-
--- 13, where it is not asked, and where it is.
-pub pair_free : (st : State) → needs_pair st ≡ false → pair_in_range st ≡ true
-pair_free st e = sym (either_yes _ (ap not e))
 
 pub pair_asked : (st : State) → needs_pair st ≡ true → sparse_range st.hll.precision st.hll.sparse_precision ≡ pair_in_range st
 pair_asked st e = either_no _ (ap not e)
 
 -- ---- 14
-
-module _ (st : State) (n : ℕ) (e : n ≡ structure_answer st) where
-  pub structure_no : (n ≡ 0 → ⊥) → n ≡ header_answer st
-  unfolding header_answer
-  structure_no = first_stop n (structure_answer st) (ask (registers_in_range st) 14 0) e
-
-  pub structure_yes : n ≡ 0 → header_answer st ≡ ask (registers_in_range st) 14 0
-  unfolding header_answer
-  structure_yes = first_go n (structure_answer st) (ask (registers_in_range st) 14 0) e
 
 -- What 10 to 13 tell where all answers are yes, and 10 to 14.
 record StructureFacts (st : State) : Type 0 where
@@ -339,23 +264,7 @@ header_number bytes n = by_length (leb (length bytes) 2147483647)
 
 -- ---- 15 and 16
 
-pub has_field_lem : (present : Bool) (d : List ℕ) → has_field (when_present present d) ≡ present
-has_field_lem true d = refl
-has_field_lem false d = refl
-
 module _ (a : Accumulator) (st : State) where
-  pub match_15 : masks_meet a st ≡ false → 15 ≡ match_answer a st
-  unfolding match_answer
-  match_15 e = sym (stop 15 _ e)
-
-  module _ (m : masks_meet a st ≡ true) where
-    pub match_16 : carried a st ≡ false → 16 ≡ match_answer a st
-    unfolding match_answer
-    match_16 e = sym (go 15 _ m ∙ stop 16 0 e)
-
-    pub match_0 : carried a st ≡ true → 0 ≡ match_answer a st
-    unfolding match_answer
-    match_0 e = sym (go 15 _ m ∙ go 16 0 e)
 
   match_facts : match_answer a st ≡ 0 → (masks_meet a st ≡ true) × (carried a st ≡ true)
   unfolding match_answer
@@ -506,20 +415,6 @@ pub wanted_small : (a : Accumulator) (m : Mem) (st : State) → RoomPre a m st �
 wanted_small a m st x = let h = fit_short a.form a m refl x.fit in let k = x.short in omega arith
 
 -- The code's four tests.
-module _ (a : Accumulator) (m : Mem) (room : ℕ) (st : State) (r : ℕ) (e : r ≡ wanted_registers a st.hll.precision) where
-  pub registers_no : length m.registers < r → false ≡ has_room a m room st
-  unfolding has_room
-  registers_no h =
-      let w = wanted_cells a (length (list_of st)) in
-      sym (ap (λ (b : Bool). b && leb w (length m.sparse) && leb w (length m.pending) && leb w room)
-      (lt-leb (wanted_registers a st.hll.precision) (length m.registers) (subst (λ (n : ℕ). length m.registers < n) e h)))
-
-  pub registers_yes : r ≤ length m.registers → (w : ℕ) → w ≡ wanted_cells a (length (list_of st))
-      → has_room a m room st ≡ (leb w (length m.sparse) && leb w (length m.pending) && leb w room)
-  unfolding has_room
-  registers_yes h w f =
-      ap₂ (λ (b : Bool) (n : ℕ). b && leb n (length m.sparse) && leb n (length m.pending) && leb n room)
-      (le-leb (wanted_registers a st.hll.precision) (length m.registers) (subst (λ (n : ℕ). n ≤ length m.registers) e h)) (sym f)
 
 -- What 17 tells where its answer is yes: of the cells, for a list that is not empty.
 pub record Room (a : Accumulator) (m : Mem) (room : ℕ) (st : State) : Type 0 where
@@ -573,13 +468,6 @@ module _ (st : State) (d out : List ℕ) (same : d ≡ list_of st) where
       (sym (ap (decode_of st.hll.precision st.hll.sparse_precision) (sym same ∙ none_is d z)
       ∙ decode_none st.hll.precision st.hll.sparse_precision))
       (refl, refl)
-
-  pub listed_some : (enc : Encoding) (r : Result ℕ DecodeError) → NewPost st.hll.precision st.hll.sparse_precision enc
-      → Decodes (decode_of enc.normal_precision enc.sparse_precision d) r out → Decodes (listed_in st) r out
-  listed_some enc r n x =
-      subst (λ (v : Read (List ℕ)). Decodes v r out)
-      (ap (λ (p : ℕ). decode_of p enc.sparse_precision d) n.normal ∙ ap (λ (s : ℕ). decode_of st.hll.precision s d) n.sparse
-      ∙ ap (decode_of st.hll.precision st.hll.sparse_precision) same) x
 
 -- ---- a state that is cut off
 

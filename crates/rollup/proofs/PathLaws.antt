@@ -13,16 +13,6 @@ use Rattle.rollup.specs.Taking.{waits, inserts, list_path, path_of}
 
 -- ---- the waiting test
 
-module _ (a : Accumulator) (x : Incoming) (k bound top : ℕ) (b : bound ≡ waiting_bound a) (t : top ≡ limit a.precision) where
-  abbrev few_wait : Bool
-  few_wait = leb (a.pending_len + k) x.most
-
-  pub wait_not : top ≤ bound + x.growth → false ≡ waits a x k
-  wait_not e = sym (ap (λ (y : Bool). y && few_wait) (le-ltb _ _ (let g : limit a.precision ≤ waiting_bound a + x.growth = omega arith in g)))
-
-  pub wait_few : bound + x.growth < top → few_wait ≡ waits a x k
-  wait_few e = sym (ap (λ (y : Bool). y && few_wait) (lt-ltb _ _ (let g : waiting_bound a + x.growth < limit a.precision = omega arith in g)))
-
 -- ---- the insertion test
 
 module _ (a : Accumulator) (kept : List ℕ) (k : ℕ) where
@@ -31,18 +21,6 @@ module _ (a : Accumulator) (kept : List ℕ) (k : ℕ) where
 
   abbrev distinct : Bool
   distinct = distinct_slots a.precision a.sparse_precision kept
-
-  pub insert_many : 16 < k → false ≡ inserts a kept k
-  insert_many l = sym (ap (λ (b : Bool). b && long && distinct) (lt-leb k 16 l))
-
-  insert_rest : k ≤ 16 → inserts a kept k ≡ (long && distinct)
-  insert_rest l = ap (λ (b : Bool). b && long && distinct) (le-leb k 16 l)
-
-  pub insert_short : k ≤ 16 → a.sparse_len < 16 * k → false ≡ inserts a kept k
-  insert_short l m = sym (insert_rest l ∙ ap (λ (b : Bool). b && distinct) (lt-leb (16 * k) a.sparse_len m))
-
-  pub insert_slots : k ≤ 16 → 16 * k ≤ a.sparse_len → (r : Bool) → r ≡ distinct → r ≡ inserts a kept k
-  insert_slots l m r e = e ∙ sym (insert_rest l ∙ ap (λ (b : Bool). b && distinct) (le-leb (16 * k) a.sparse_len m))
 
 -- ---- the path
 
@@ -77,26 +55,6 @@ module _ (a : Accumulator) (kept : List ℕ) (x : Incoming) (k : ℕ) where
 
   pub path_none : k ≡ 0 → None ≡ list_path a kept x k
   path_none z = sym (ap (λ (b : Bool). chosen b (waits a x k) others_wait (inserts a kept k)) (eq-eqb k 0 z))
-
-  module _ (n : k ≡ 0 → ⊥) where
-    path_rest : (t : Bool) → t ≡ waits a x k → chosen false t others_wait (inserts a kept k) ≡ list_path a kept x k
-    path_rest t e =
-        ap (λ (b : Bool). chosen false b others_wait (inserts a kept k)) e
-        ∙ sym (ap (λ (b : Bool). chosen b (waits a x k) others_wait (inserts a kept k)) (ne_eqb k 0 n))
-
-    pub path_waits : waits a x k ≡ true → (Some Waits) ≡ list_path a kept x k
-    path_waits e = path_rest true (sym e)
-
-    pub path_sorts : waits a x k ≡ false → (a.pending_len ≡ 0 → ⊥) → (Some Sorts) ≡ list_path a kept x k
-    path_sorts e m =
-        sym (ap (λ (b : Bool). chosen false false (not b) (inserts a kept k)) (ne_eqb a.pending_len 0 m)) ∙ path_rest false (sym e)
-
-    -- None wait: they are inserted, or merged.
-    pub path_last : waits a x k ≡ false → a.pending_len ≡ 0 → (t : Bool) → inserts a kept k ≡ t → cond t (Some Inserts) (Some Merges) ≡ list_path a kept x k
-    path_last e z t f =
-        ap (λ (b : Bool). cond b (Some Inserts) (Some Merges)) (sym f)
-        ∙ sym (ap (λ (b : Bool). chosen false false (not b) (inserts a kept k)) (eq-eqb a.pending_len 0 z))
-        ∙ path_rest false (sym e)
 
   -- Where there is a path there are values.
   pub path_some : (q : Option Path) → q ≡ list_path a kept x k → is_some q ≡ true → 0 < k

@@ -42,22 +42,6 @@ module _ {p s : ℕ} {enc : Encoding} (n : NewPost p s enc) (P : ℕ → ℕ →
 
 -- ---- heads
 
-pub counted_head : (a : Accumulator) (x : Incoming) (count : ℕ) → count ≡ sum_count a x.num_values
-    → record {
-      form = a.form;
-      allowed = common_mask a x.mask;
-      value_type = a.value_type;
-      num_values = count;
-      precision = a.precision;
-      sparse_precision = a.sparse_precision;
-      sparse_size = a.sparse_size;
-      sparse_len = a.sparse_len;
-      sparse_bytes = a.sparse_bytes;
-      pending_len = a.pending_len;
-    }
-    ≡ counted a x
-counted_head a x count e = rw e
-
 -- ---- registers
 
 module _ (p s : ℕ) (bytes : List ℕ) (room : register_bytes p ≤ length bytes) where
@@ -310,20 +294,6 @@ module _ {h : Accumulator} {registers sparse pending scratch : List ℕ} {k : �
   merged_few : length kept + length waiting ≤ 2147483647
   merged_few = omega (arith, pre.ready.short, taken_length h.sparse_len sparse, taken_length h.pending_len pending)
 
-  pub merge_join : JoinPre enc sparse h.sparse_len pending h.pending_len scratch k
-  merge_join =
-      let x = of_pair new (λ (p s : ℕ). ListReady p s h kept waiting vs) pre.ready in
-      record {
-        order = x.order;
-        kept_valid = x.kept_valid;
-        waiting_valid = x.waiting_valid;
-        incoming_order = x.incoming_order;
-        incoming_valid = x.incoming_valid;
-        in_sparse = pre.room.in_sparse;
-        in_pending = pre.room.in_pending;
-        in_scratch = pre.room.in_scratch;
-      }
-
   module _ {u : Merged} {after : List ℕ} (post : MergePost enc.normal_precision enc.sparse_precision kept (waiting ++ vs) u after) where
     merged_one : OneList h.precision h.sparse_precision kept (waiting ++ vs)
         (written (merged h.precision h.sparse_precision kept (waiting ++ vs))) u after
@@ -366,16 +336,6 @@ module _ {h : Accumulator} {registers sparse scratch : List ℕ} {k : ℕ} (pre 
 
   inserted_few : length own + 0 ≤ 2147483647
   inserted_few = omega (arith, pre.ready.short, taken_length h.sparse_len sparse)
-
-  pub insert_into : InsertPre enc sparse h.sparse_len new_values h.sparse_bytes
-  insert_into =
-      record {
-        room = omega (arith, pre.in_sparse, new_length);
-        rises = pre.ready.order;
-        distinct = of_pair new (λ (p s : ℕ). distinct_slots p s own ≡ true) pre.distinct;
-        least = pre.ready.bytes_low;
-        most = omega (arith, pre.ready.bytes_high, pre.ready.incoming_short);
-      }
 
   module _ {u : Merged} {after : List ℕ}
       (post : InsertPost enc.normal_precision enc.sparse_precision sparse h.sparse_len new_values h.sparse_bytes u after) where
@@ -483,14 +443,6 @@ module _ {a : Accumulator} {m : Mem} {scratch : List ℕ} {x : Incoming} {path :
           room = taking_registers;
           size = pre.taken.size (pos_of_ne-zero n) ∙ ap (λ (q : ℕ). 2 ^ q) (pre.taken.same_normal f);
         })
-
-    pub wait_pre : path ≡ Some Waits → (h.form ≡ Sparse) × (k ≤ length scratch) × (h.pending_len + k ≤ length m.pending)
-    wait_pre e =
-        (
-          ap (λ (y : Accumulator). y.form) c ∙ f,
-          pre.inside,
-          omega (arith, ap (λ (y : Accumulator). y.pending_len) c, (taking_room (ap is_some e)).in_pending),
-        )
 
     pub merge_pre : is_some path ≡ true → MergeInPre h m.registers m.sparse m.pending scratch k
     merge_pre e =

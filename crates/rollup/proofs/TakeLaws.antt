@@ -106,8 +106,3 @@ module _ {a : Accumulator} {m : Mem} {scratch : List ℕ} {x : Incoming} {path :
         low = t.low;
         lowers = record { high = t.high; size = t.size; small = omega (arith, t.small, t.high); pair = t.pair; all = t.all };
       }
-
--- The form says what is left.
-pub taken_by : (a : Accumulator) (m : Mem) (x : Incoming) (row vs : List ℕ) (f : Form) {r : Accumulator} {n : Mem} → a.form ≡ f
-    → Shows (taken_after f a m x row vs) r n → Shows (taken_after a.form a m x row vs) r n
-taken_by a m x row vs f {r} {n} e shows = subst (λ (g : Form). Shows (taken_after g a m x row vs) r n) (sym e) shows

@@ -9,6 +9,8 @@ use console::memory::filled;
 use console::show::{bad_case, print_line};
 use console::text::{number, precision, read_list, word};
 use rollup::accumulator::{Accumulator, Form};
+use rollup::adding::Fitted;
+use rollup::memory::Memory;
 use std::io;
 use std::io::Print;
 
@@ -30,15 +32,13 @@ fn form(v: u32) -> Form {
 }
 
 fn mask(v: u32) -> u8 {
-    if v < 256 { v as u8 } else { 0 }
+    u8::try_from(v).unwrap_or(0)
 }
 
 // The head of a line: its ten numbers, those that are signed as the unsigned ones of the same bits.
-fn head_line(rt: &impl Print, line: &[u8]) -> io::Result<Accumulator> {
-    let form = form(precision(word(line, 1)));
-    println!(rt; "ok")?;
-    Ok(Accumulator {
-        form,
+fn head_in(line: &[u8]) -> Accumulator {
+    Accumulator {
+        form: form(precision(word(line, 1))),
         allowed: mask(precision(word(line, 2))),
         value_type: precision(word(line, 3)),
         num_values: number(word(line, 4)),
@@ -48,7 +48,7 @@ fn head_line(rt: &impl Print, line: &[u8]) -> io::Result<Accumulator> {
         sparse_len: number(word(line, 8)) as usize,
         sparse_bytes: number(word(line, 9)) as usize,
         pending_len: number(word(line, 10)) as usize,
-    })
+    }
 }
 
 // ---- memory
@@ -73,92 +73,48 @@ fn list_line(rt: &impl Print, line: &[u8], list: &mut [u32]) -> io::Result<()> {
 
 fn add_case(
     rt: &impl Print,
-    head: Accumulator,
-    registers: &mut [u8],
-    sparse: &mut [u32],
-    pending: &mut [u32],
-    scratch: &mut [u32],
+    head: &mut Accumulator,
+    memory: &mut Memory,
     bytes: &[u8],
-) -> io::Result<Accumulator> {
-    let r = rollup::adding::add(head, registers, sparse, pending, scratch, bytes);
-    answers::print_after(
-        rt,
-        r.answer,
-        r.head,
-        &registers[..],
-        &sparse[..],
-        &pending[..],
-    )?;
-    Ok(r.head)
+) -> io::Result<()> {
+    let answer = head.add(memory, bytes);
+    answers::print_after(rt, answer, *head, memory)
 }
 
 // The same by the function that asks for a head that fits.
 fn fitting_case(
     rt: &impl Print,
-    head: Accumulator,
-    registers: &mut [u8],
-    sparse: &mut [u32],
-    pending: &mut [u32],
-    scratch: &mut [u32],
+    head: &mut Accumulator,
+    memory: &mut Memory,
     bytes: &[u8],
-) -> io::Result<Accumulator> {
-    if !rollup::fitting::fits(head, &registers[..], &sparse[..], &pending[..]) {
-        bad_case(rt)?;
-        return Ok(head);
+) -> io::Result<()> {
+    if !head.fits_in(memory) {
+        return bad_case(rt);
     }
-    let r = rollup::adding::add_fitting(head, false, registers, sparse, pending, scratch, bytes);
-    answers::print_after(
-        rt,
-        r.answer,
-        r.head,
-        &registers[..],
-        &sparse[..],
-        &pending[..],
-    )?;
-    Ok(r.head)
-}
-
-fn state_case(
-    rt: &impl Print,
-    kind: u8,
-    head: Accumulator,
-    registers: &mut [u8],
-    sparse: &mut [u32],
-    pending: &mut [u32],
-    scratch: &mut [u32],
-    bytes: &[u8],
-) -> io::Result<Accumulator> {
-    if kind == b'f' {
-        return fitting_case(rt, head, registers, sparse, pending, scratch, bytes);
-    }
-    add_case(rt, head, registers, sparse, pending, scratch, bytes)
+    let mut fitted = Fitted {
+        head: *head,
+        distinct: false,
+    };
+    let answer = fitted.add(memory, bytes);
+    *head = fitted.head;
+    answers::print_after(rt, answer, *head, memory)
 }
 
 fn add_line(
     rt: &impl Print,
     kind: u8,
-    head: Accumulator,
-    registers: &mut [u8],
-    sparse: &mut [u32],
-    pending: &mut [u32],
-    scratch: &mut [u32],
+    head: &mut Accumulator,
+    memory: &mut Memory,
     line: &[u8],
-) -> io::Result<Accumulator> {
+) -> io::Result<()> {
     let mut bytes: [u8; 4096] = filled(0);
     let Some(n) = read_bytes(word(line, 1), &mut bytes) else {
-        bad_case(rt)?;
-        return Ok(head);
+        return bad_case(rt);
     };
-    state_case(
-        rt,
-        kind,
-        head,
-        registers,
-        sparse,
-        pending,
-        scratch,
-        &bytes[..n],
-    )
+    match kind {
+        b'f' => fitting_case(rt, head, memory, &bytes[..n]),
+        _ => add_case(rt, head, memory, &bytes[..n]),
+    }
 }
 
 // A size of at most `most`, which stands for a larger one too.
@@ -168,18 +124,22 @@ fn size(word: &[u8], most: usize) -> usize
     (number(word) as usize).min(most)
 }
 
+// What is only read is lent to the writer as `&`.
 fn write_case(
     rt: &impl Print,
     head: Accumulator,
-    registers: &[u8],
-    sparse: &[u32],
-    pending: &mut [u32],
-    scratch: &mut [u32],
+    memory: &mut Memory,
     out: &mut [u8],
 ) -> io::Result<()> {
-    let r = rollup::writing::write(head, registers, sparse, pending, scratch, out);
-    answers::print_written(rt, r.answer, r.len, &out[..])?;
-    answers::print_memory(rt, head, registers, sparse, &pending[..])?;
+    let (registers, sparse, pending, scratch) = (
+        &mut *memory.registers,
+        &mut *memory.sparse,
+        &mut *memory.pending,
+        &mut *memory.scratch,
+    );
+    let written = head.write(registers, sparse, pending, scratch, out);
+    answers::print_written(rt, written, out)?;
+    answers::print_memory(rt, head, memory)?;
     println!(rt; "")
 }
 
@@ -187,99 +147,65 @@ fn write_case(
 fn write_fitting_case(
     rt: &impl Print,
     head: Accumulator,
-    registers: &[u8],
-    sparse: &[u32],
-    pending: &mut [u32],
-    scratch: &mut [u32],
+    memory: &mut Memory,
     out: &mut [u8],
 ) -> io::Result<()> {
-    if !rollup::fitting::fits(head, registers, sparse, &pending[..]) {
+    if !head.fits_in(memory) {
         return bad_case(rt);
     }
-    let r = rollup::writing::write_fitting(head, registers, sparse, pending, scratch, out);
-    answers::print_written(rt, r.answer, r.len, &out[..])?;
-    answers::print_memory(rt, head, registers, sparse, &pending[..])?;
+    let (registers, sparse, pending, scratch) = (
+        &mut *memory.registers,
+        &mut *memory.sparse,
+        &mut *memory.pending,
+        &mut *memory.scratch,
+    );
+    let written = head.write_fitting(registers, sparse, pending, scratch, out);
+    answers::print_written(rt, written, out)?;
+    answers::print_memory(rt, head, memory)?;
     println!(rt; "")
-}
-
-fn output_case(
-    rt: &impl Print,
-    kind: u8,
-    head: Accumulator,
-    registers: &[u8],
-    sparse: &[u32],
-    pending: &mut [u32],
-    scratch: &mut [u32],
-    out: &mut [u8],
-) -> io::Result<()> {
-    if kind == b'u' {
-        write_fitting_case(rt, head, registers, sparse, pending, scratch, out)
-    } else {
-        write_case(rt, head, registers, sparse, pending, scratch, out)
-    }
 }
 
 fn write_line(
     rt: &impl Print,
     kind: u8,
     head: Accumulator,
-    registers: &[u8],
-    sparse: &[u32],
-    pending: &mut [u32],
-    scratch: &mut [u32],
+    memory: &mut Memory,
     line: &[u8],
 ) -> io::Result<()> {
     let n = size(word(line, 1), 20480);
     let mut out: [u8; 20480] = filled(BYTE);
-    output_case(
-        rt,
-        kind,
-        head,
-        registers,
-        sparse,
-        pending,
-        scratch,
-        &mut out[..n],
-    )
+    match kind {
+        b'u' => write_fitting_case(rt, head, memory, &mut out[..n]),
+        _ => write_case(rt, head, memory, &mut out[..n]),
+    }
 }
 
 // ---- lines
 
-// A line at a roll-up: a letter, and behind a blank its operands. The answer is the head after it.
+// A line at a roll-up: a letter, and behind a blank its operands.
 fn case(
     rt: &impl Print,
-    head: Accumulator,
-    registers: &mut [u8],
-    sparse: &mut [u32],
-    pending: &mut [u32],
-    scratch: &mut [u32],
+    head: &mut Accumulator,
+    memory: &mut Memory,
     line: &[u8],
-) -> io::Result<Accumulator> {
+) -> io::Result<()> {
     let Some(&kind) = line.first() else {
-        bad_case(rt)?;
-        return Ok(head);
+        return bad_case(rt);
     };
     match kind {
-        b'a' | b'f' => return add_line(rt, kind, head, registers, sparse, pending, scratch, line),
-        b'o' | b'u' => write_line(
-            rt,
-            kind,
-            head,
-            &registers[..],
-            &sparse[..],
-            pending,
-            scratch,
-            line,
-        )?,
-        b'h' => return head_line(rt, line),
-        b'r' => registers_line(rt, line, registers)?,
-        b'k' => list_line(rt, line, sparse)?,
-        b'w' => list_line(rt, line, pending)?,
-        b'q' => answers::print_asked(rt, head)?,
-        b'#' => print_line(rt, line)?,
-        _ => bad_case(rt)?,
+        b'a' | b'f' => add_line(rt, kind, head, memory, line),
+        b'o' | b'u' => write_line(rt, kind, *head, memory, line),
+        b'h' => {
+            *head = head_in(line);
+            println!(rt; "ok")
+        }
+        b'r' => registers_line(rt, line, memory.registers),
+        b'k' => list_line(rt, line, memory.sparse),
+        b'w' => list_line(rt, line, memory.pending),
+        b'q' => answers::print_asked(rt, *head),
+        b'#' => print_line(rt, line),
+        _ => bad_case(rt),
     }
-    Ok(head)
 }
 
 // The lines up to the next `n`, at a roll-up that begins fresh with this memory. The answer is what is left of the text. A cursor, and no iterator over
@@ -287,10 +213,7 @@ fn case(
 fn calls<'a>(
     rt: &impl Print,
     text: &'a [u8],
-    registers: &mut [u8],
-    sparse: &mut [u32],
-    pending: &mut [u32],
-    scratch: &mut [u32],
+    memory: &mut Memory,
 ) -> io::Result<&'a [u8]>
     ensures { IfOk result (λ rest. length rest.now ≤ length text.now) }
 {
@@ -298,7 +221,7 @@ fn calls<'a>(
     let mut rest = text;
     while !rest.is_empty() && rest[0] != b'n' {
         let (line, next) = cut(rest, b'\n');
-        head = case(rt, head, registers, sparse, pending, scratch, line)?;
+        case(rt, &mut head, memory, line)?;
         rest = next;
     }
     Ok(rest)
@@ -320,14 +243,13 @@ fn lend<'a>(
     let mut sparse: [u32; 8192] = filled(CELL);
     let mut pending: [u32; 8192] = filled(CELL);
     let mut scratch: [u32; 8192] = filled(CELL);
-    calls(
-        rt,
-        text,
-        &mut registers[..r],
-        &mut sparse[..k],
-        &mut pending[..w],
-        &mut scratch[..s],
-    )
+    let mut memory = Memory {
+        registers: &mut registers[..r],
+        sparse: &mut sparse[..k],
+        pending: &mut pending[..w],
+        scratch: &mut scratch[..s],
+    };
+    calls(rt, text, &mut memory)
 }
 
 // A new roll-up, by its line `n`. The answer is what is left of the text behind that line and its calls.

@@ -1,7 +1,7 @@
--- `fitting_case` is safe: `add_fitting` is called where `fits` said yes.
+-- `fitting_case` is safe: the state is added where `fits_in` said yes.
 use Rattle.wire.proofs.BoolLaws.{never, said_yes}
 use Rattle.std.proofs.lemmas.Bool.{not_from_true}
 use Rattle.rollup_cases.proofs.fitting_case.Goals as goal
 
-pub add_fitting-r-requires : goal.add_fitting-r-requires
-add_fitting-r-requires g c = record { fit = said_yes c.fits.ensures (not_from_true _ c.if-not-fits.false); known = never }
+pub add-answer-requires : goal.add-answer-requires
+add-answer-requires g c = record { fit = said_yes c.fits_in.ensures (not_from_true _ c.if-not-fits_in.false); known = never }

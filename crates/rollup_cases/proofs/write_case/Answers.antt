@@ -3,4 +3,4 @@ use Rattle.rollup_cases.proofs.Laws.{written_inside}
 use Rattle.rollup_cases.proofs.write_case.Goals as goal
 
 pub print_written-requires : goal.print_written-requires
-print_written-requires g c = written_inside _ _ _ _ c.write-r.result _ _ c.write-r.ensures
+print_written-requires g c = written_inside _ _ _ _ _ _ _ _ c.write-written.ensures
