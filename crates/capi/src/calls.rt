@@ -71,15 +71,11 @@ pub fn filmoed_write(
         put_first(len, 0);
         return 1;
     };
-    match a.write(registers, sparse, pending, scratch, out) {
-        Ok(n) => {
-            put_first(len, n as u64);
-            0
-        }
-        Err(e) => {
-            put_first(len, 0);
-            e.number()
-        }
+    let written = a.write(registers, sparse, pending, scratch, out);
+    put_first(len, written.unwrap_or(0) as u64);
+    match written {
+        Ok(_) => 0,
+        Err(e) => e.number(),
     }
 }
 

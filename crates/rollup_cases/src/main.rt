@@ -210,11 +210,7 @@ fn case(
 
 // The lines up to the next `n`, at a roll-up that begins fresh with this memory. The answer is what is left of the text. A cursor, and no iterator over
 // lines, since the line that ends a roll-up belongs to the next.
-fn calls<'a>(
-    rt: &impl Print,
-    text: &'a [u8],
-    memory: &mut Memory,
-) -> io::Result<&'a [u8]>
+fn calls<'a>(rt: &impl Print, text: &'a [u8], memory: &mut Memory) -> io::Result<&'a [u8]>
     ensures { IfOk result (λ rest. length rest.now ≤ length text.now) }
 {
     let mut head = Accumulator::new();
