@@ -15,8 +15,6 @@ use Rattle.rollup.specs.Accumulator.{mem}
 use Rattle.rollup.specs.Taking.{After, dense_head, counted, signed_min, raised_to, dense_after, Shows}
 use Rattle.rollup.specs.Stages.{LowerOwnPre, LowerOwnPost, RaiseByRowPre, RaiseByListPre, RaisePre, DensePre}
 
--- ---- the smaller as signed numbers
-
 -- ---- the roll-up's own registers
 
 -- Lowered by no bits, they are as they were.
@@ -124,12 +122,6 @@ module _ (q p s : ℕ) (vs registers : List ℕ) (pre : RaiseByListPre q p s vs 
       (λ (n : ℕ).
       with_registers n (raised_lower enc.normal_precision enc.sparse_precision (p - q) (registers_of n registers) vs) registers) list_place
       ∙ ap₂ (λ (a b : ℕ). with_registers q (raised_lower a b (p - q) (registers_of q registers) vs) registers) new.normal new.sparse
-
--- ---- either
-
-module _ (q : ℕ) (x : Incoming) (row vs registers : List ℕ) (pre : RaisePre q x row vs registers) where
-  abbrev p : ℕ
-  p = x.precision
 
 -- ---- a dense roll-up
 

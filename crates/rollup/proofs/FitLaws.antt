@@ -166,10 +166,6 @@ module _ (a : Accumulator) (kept waiting : List ℕ) where
       let e₁ = both_true c₁ c₂ e₂.0 in
       (record { kept_valid = e₁.0; waiting_valid = e₁.1; order = e₂.1 }, e₃.1)
 
--- ---- the registers
-
--- The code's test for enough register bytes.
-
 -- ---- all of it, taken apart and put together
 
 module _ (a : Accumulator) (m : Mem) where

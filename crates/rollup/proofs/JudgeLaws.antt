@@ -31,7 +31,7 @@ use Rattle.rollup.specs.Accumulator.{Mem, normal_range, sparse_range}
 use Rattle.rollup.specs.Header.{viewed, ask, first_no, data_of, list_of, is_empty, is_value_type, mask_of, state_type, state_version, kind_answer, list_has_precision, data_has_length, needs_pair, pair_in_range, structure_answer, registers_in_range, header_answer, passing, read_header}
 use Rattle.rollup.specs.Adding.{masks_meet, has_field, has_both, same_pair, carried, match_answer, judge, judge_answer, wanted_precision, wanted_registers, wanted_cells, has_room, listed_in}
 use Rattle.rollup.specs.Judging.{judged_means, JudgedInside, HeaderPost, JudgePost, RoomPre, ListedPre}
-use Rattle.rollup.proofs.FitLaws.{both_yes, both_no, above_zero, range_of, ranges_pair, fit_sparse, fit_dense, fit_short}
+use Rattle.rollup.proofs.FitLaws.{both_yes, above_zero, range_of, ranges_pair, fit_sparse, fit_dense, fit_short}
 
 -- ---- Bools
 
@@ -116,8 +116,6 @@ mask_8 t e = rw e
 pub mask_other : (t : ℕ) → (t ≡ 0 → ⊥) → (t ≡ 7 → ⊥) → (t ≡ 8 → ⊥) → 12 ≡ mask_of t
 mask_other t a b c = rw (ne_eqb t 0 a, ne_eqb t 7 b, ne_eqb t 8 c)
 
--- ---- 7 to 9
-
 -- ---- 10 to 13
 
 -- What is left of the questions after each that is passed.
@@ -133,8 +131,7 @@ from11 st = ask (normal_range st.hll.precision) 11 (from12 st)
 abbrev pub from10 : State → ℕ
 from10 st = ask (list_has_precision st) 10 (from11 st)
 
--- Whether 13 is asked, of a state without list bytes.
-
+-- 13, where it is asked.
 pub pair_asked : (st : State) → needs_pair st ≡ true → sparse_range st.hll.precision st.hll.sparse_precision ≡ pair_in_range st
 pair_asked st e = either_no _ (ap not e)
 

@@ -11,17 +11,6 @@ use Rattle.rollup.specs.declared.paths.Path.TheVariants.{Waits, Sorts, Inserts, 
 use Rattle.rollup.specs.Accumulator.{limit, waiting_bound}
 use Rattle.rollup.specs.Taking.{waits, inserts, list_path, path_of}
 
--- ---- the waiting test
-
--- ---- the insertion test
-
-module _ (a : Accumulator) (kept : List ℕ) (k : ℕ) where
-  abbrev long : Bool
-  long = leb (16 * k) a.sparse_len
-
-  abbrev distinct : Bool
-  distinct = distinct_slots a.precision a.sparse_precision kept
-
 -- ---- the path
 
 -- By the answers: are there no values, do they wait, do others wait, are they inserted?
