@@ -1,5 +1,5 @@
 -- The paths of a dense roll-up: what the calls of each function leave is what the definitions have.
-use Rattle.std.proofs.Common.{◌≡◌, ℕ, ◌+◌, ◌-◌, ◌%◌, ◌^◌, ◌<◌, ◌≤◌, min, Bool, true, cond, ltb, List, [], ◌++◌, length, take, replicate, sym, refl, ap, ◌∙◌, subst, ap₂, append-nil, le_trans, pos_of_ne-zero, arith, length-append, pow_mono, le-ltb, lt-ltb, eq-eqb, ne_eqb}
+use Rattle.std.proofs.Common.{◌≡◌, ℕ, ◌+◌, ◌-◌, ◌^◌, ◌<◌, ◌≤◌, min, true, List, [], ◌++◌, length, take, replicate, sym, refl, ap, ◌∙◌, subst, ap₂, append-nil, le_trans, arith, length-append, pow_mono}
 use mathlib.Core.List.{Permᴰ}
 use native.Mathlib.Nat.{min-le_left, min-le_right}
 use lib.ListN.{length-replicate}

@@ -1,6 +1,5 @@
 -- No bytes are the list of no values; others have a pair that a list can have, and `decode_validated_into` answers for it.
 use Rattle.rollup.specs.Header.{viewed}
-use Rattle.std.proofs.Common.{length, ap, arith}
 use Rattle.rollup.proofs.JudgeLaws.{listed_none}
 use Rattle.rollup.proofs.judging.decode_listed.Goals as goal
 

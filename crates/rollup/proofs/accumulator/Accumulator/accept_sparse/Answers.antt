@@ -1,5 +1,5 @@
 -- What the path tells gives what its function requires (`densify_pre` to `insert_pre`); each leaves its case of the definition (`shows_row` to `shows_merged`).
-use Rattle.std.proofs.Common.{◌≡◌, ℕ, ◌⊎◌, inl, inr, ⊎_elim, refl, ap, ◌∙◌, Some}
+use Rattle.std.proofs.Common.{◌≡◌, ◌⊎◌, inl, inr, ⊎_elim, refl, ap, ◌∙◌, Some}
 use denote.Enum.Declared.{tag_of}
 use Rattle.rollup.specs.contracts.paths.Path.{the_type}
 use Rattle.rollup.specs.declared.paths.Path.{Path}
