@@ -1,5 +1,5 @@
 -- Adding: the questions one after the other, and what a refusal and an accepted state leave. `add_outcome` is unfolded here alone.
-use Rattle.std.proofs.Common.{◌≡◌, ℕ, ◌*◌, ◌≤◌, Bool, true, false, List, [], length, take, sym, refl, ap, ◌∙◌, subst, ap₂, arith, length-take-le, Option, Result, Ok, Err}
+use Rattle.std.proofs.Common.{◌≡◌, ℕ, ◌*◌, ◌≤◌, Bool, true, false, List, [], length, take, sym, refl, ap, ◌∙◌, subst, ap₂, arith, length-take-le, Option, Ok, Err}
 use mathlib.Core.List.Permᴰ
 use mathlib.Core.List.{Permᴰ}
 use Rattle.wire.specs.Reading.{Read, got, refused}
@@ -136,7 +136,7 @@ module _ {a : Accumulator} {distinct : Bool} {m : Mem} {scratch : List ℕ} {st 
             incoming = accept_few;
           },
           subst (λ (l : List ℕ). InsertsPre a l distinct) (sym there)
-          (record { pair = s.pair; order = s.order; all = s.kept_valid; known = pre.known }),
+              (record { pair = s.pair; order = s.order; all = s.kept_valid; known = pre.known }),
         )
 
     module _ {path : Option Path} (its : path ≡ path_of a.form a kept x k) {row : List ℕ} (same : row ≡ data_of st) where

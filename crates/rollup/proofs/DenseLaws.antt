@@ -1,5 +1,5 @@
 -- The paths of a dense roll-up: what the calls of each function leave is what the definitions have.
-use Rattle.std.proofs.Common.{◌≡◌, ℕ, ◌+◌, ◌-◌, ◌%◌, ◌^◌, ◌<◌, ◌≤◌, min, Bool, true, cond, ltb, List, [], ◌++◌, length, take, replicate, sym, refl, ap, ◌∙◌, subst, ap₂, append-nil, le_trans, pos_of_ne-zero, arith, length-append, pow_mono, le-ltb, lt-ltb, eq-eqb, ne_eqb}
+use Rattle.std.proofs.Common.{◌≡◌, ℕ, ◌+◌, ◌-◌, ◌^◌, ◌<◌, ◌≤◌, min, true, List, [], ◌++◌, length, take, replicate, sym, refl, ap, ◌∙◌, subst, ap₂, append-nil, le_trans, arith, length-append, pow_mono}
 use mathlib.Core.List.{Permᴰ}
 use native.Mathlib.Nat.{min-le_left, min-le_right}
 use lib.ListN.{length-replicate}
@@ -14,8 +14,6 @@ use Rattle.rollup.specs.declared.incoming.Incoming.{Incoming}
 use Rattle.rollup.specs.Accumulator.{mem}
 use Rattle.rollup.specs.Taking.{After, dense_head, counted, signed_min, raised_to, dense_after, Shows}
 use Rattle.rollup.specs.Stages.{LowerOwnPre, LowerOwnPost, RaiseByRowPre, RaiseByListPre, RaisePre, DensePre}
-
--- ---- the smaller as signed numbers
 
 -- ---- the roll-up's own registers
 
@@ -124,12 +122,6 @@ module _ (q p s : ℕ) (vs registers : List ℕ) (pre : RaiseByListPre q p s vs 
       (λ (n : ℕ).
       with_registers n (raised_lower enc.normal_precision enc.sparse_precision (p - q) (registers_of n registers) vs) registers) list_place
       ∙ ap₂ (λ (a b : ℕ). with_registers q (raised_lower a b (p - q) (registers_of q registers) vs) registers) new.normal new.sparse
-
--- ---- either
-
-module _ (q : ℕ) (x : Incoming) (row vs registers : List ℕ) (pre : RaisePre q x row vs registers) where
-  abbrev p : ℕ
-  p = x.precision
 
 -- ---- a dense roll-up
 

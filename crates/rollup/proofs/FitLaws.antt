@@ -1,21 +1,19 @@
 -- Question 1, taken apart by the form and put together: what follows where the head fits, as a record for each form.
-use Rattle.std.proofs.Common.{◌≡◌, ℕ, ◌+◌, ◌-◌, ◌*◌, ◌%◌, ◌^◌, ◌<◌, ◌≤◌, Bool, true, false, not, ◌&&◌, ◌||◌, eqb, ltb, leb, List, length, sym, refl, ap, ◌∙◌, ap₂, ⊎_elim, pos_of_ne-zero, arith, length-take-le, pow_mono, ltb-true, lt-ltb, eq-eqb, ne_eqb, eqb-true, le-leb, leb-true}
-use borrow.Author.Tests.{eqb-false, lt-leb, not-true}
+use Rattle.std.proofs.Common.{◌≡◌, ℕ, ◌+◌, ◌-◌, ◌*◌, ◌%◌, ◌^◌, ◌<◌, ◌≤◌, Bool, true, not, ◌&&◌, ◌||◌, eqb, ltb, leb, List, length, sym, refl, ap, ◌∙◌, ap₂, ⊎_elim, pos_of_ne-zero, arith, length-take-le, pow_mono, ltb-true, lt-ltb, eq-eqb, ne_eqb, eqb-true, le-leb, leb-true}
+use borrow.Author.Tests.{eqb-false, not-true}
 use Rattle.wire.proofs.BoolLaws.{both, both_true}
 use Rattle.wire.proofs.VarintLaws.{side}
 use Rattle.lists.proofs.DecodingLaws.{accepted, decode_encode}
 use Rattle.lists.proofs.MergeLaws.{length_encode}
 use Rattle.lists.proofs.RegisterLaws.{count_is}
-use Rattle.lists.specs.declared.values.Sparse.{Sparse as Encoding}
 use Rattle.lists.specs.Values.{Pair, largest_rank}
-use Rattle.lists.specs.Pairs.{NewPost}
 use Rattle.lists.specs.Sorting.{ascends}
 use Rattle.lists.specs.Lists.{all_valid, encode_list, written}
 use Rattle.lists.specs.Registers.{register_bytes, registers_of, largest}
 use Rattle.rollup.specs.declared.accumulator.Form.{Form}
 use Rattle.rollup.specs.declared.accumulator.Form.TheVariants.{Unstarted, Sparse, Dense}
 use Rattle.rollup.specs.declared.accumulator.Accumulator.{Accumulator}
-use Rattle.rollup.specs.Accumulator.{Mem, kept_of, waiting_of, limit, max_pending, normal_range, sparse_range, ranges_fit, no_lists, waiting_bound, waiting_fits, counts_fit, lists_fit, registers_fit, sparse_fits, dense_fits, fits_form, fits}
+use Rattle.rollup.specs.Accumulator.{Mem, kept_of, waiting_of, limit, max_pending, normal_range, sparse_range, ranges_fit, no_lists, waiting_bound, waiting_fits, counts_fit, lists_fit, sparse_fits, dense_fits, fits_form, fits}
 
 -- ---- Bools
 
@@ -165,10 +163,6 @@ module _ (a : Accumulator) (kept waiting : List ℕ) where
       let e₂ = both_true (c₁ && c₂) (ascends kept) e₃.0 in
       let e₁ = both_true c₁ c₂ e₂.0 in
       (record { kept_valid = e₁.0; waiting_valid = e₁.1; order = e₂.1 }, e₃.1)
-
--- ---- the registers
-
--- The code's test for enough register bytes.
 
 -- ---- all of it, taken apart and put together
 

@@ -1,20 +1,18 @@
 -- Questions 2 to 20, taken apart: what is known of a state that was accepted, fact by fact, and each question's answer on its own.
-use Rattle.std.proofs.Common.{◌≡◌, ℕ, zero, suc, ◌+◌, ◌*◌, ◌%◌, ◌^◌, ◌<◌, ◌≤◌, Bool, true, false, cond, not, ◌&&◌, ◌||◌, eqb, leb, List, [], ◌∷◌, length, sym, refl, ap, ◌∙◌, subst, ap₂, Result, Ok, Err, pos_of_ne-zero, arith, eq-eqb, ne_eqb, eqb-true, le-leb, leb-true}
+use Rattle.std.proofs.Common.{◌≡◌, ℕ, zero, suc, ◌+◌, ◌^◌, ◌<◌, ◌≤◌, Bool, true, false, cond, not, ◌&&◌, ◌||◌, eqb, leb, List, [], ◌∷◌, length, sym, refl, ap, ◌∙◌, subst, ap₂, Result, Ok, Err, pos_of_ne-zero, arith, eq-eqb, ne_eqb, eqb-true, le-leb, leb-true}
 use mathlib.Core.Option.{Option, none, some}
-use borrow.Author.Tests.{lt-leb, eqb-false, not-true, not-false}
-use Rattle.wire.proofs.BoolLaws.{both, both_true, said_yes, said_no}
+use borrow.Author.Tests.{lt-leb, eqb-false, not-true}
+use Rattle.wire.proofs.BoolLaws.{both, both_true}
 use Rattle.wire.proofs.BoundLaws.{sparse_data_within, read_number}
 use Rattle.wire.specs.Reading.{Read, got, refused, and_then}
-use Rattle.wire.specs.State.{HllState, State, bytes_or_none, state_of, read_state, when_present, HllInside}
+use Rattle.wire.specs.State.{HllState, State, bytes_or_none, state_of, read_state}
 use Rattle.wire.specs.Layout.{CutReading, cut_refused, cut_before_hll}
 use Rattle.wire.specs.declared.view.StateView.{StateView}
 use Rattle.lists.specs.Values.{Pair, largest_rank}
-use Rattle.lists.specs.Pairs.{NewPost}
 use Rattle.lists.specs.Lists.{decode_of}
 use Rattle.lists.specs.Registers.{register_bytes, registers_of, largest, Holds}
-use Rattle.lists.specs.declared.values.Sparse.{Sparse as Encoding}
 use Rattle.lists.proofs.RankLaws.{largest_least}
-use Rattle.lists.proofs.RegisterLaws.{count_is, row_holds, row_registers}
+use Rattle.lists.proofs.RegisterLaws.{row_holds, row_registers}
 use Rattle.lists.proofs.DecodingLaws.{decode_none}
 use Rattle.rollup.specs.declared.accumulator.Form.{Form}
 use Rattle.rollup.specs.declared.accumulator.Form.TheVariants.{Unstarted, Sparse, Dense}
@@ -25,13 +23,12 @@ use Rattle.rollup.specs.Refusals.{number}
 use Rattle.wire.specs.View.{ViewPost}
 use Rattle.lists.specs.Lists.{Decodes}
 use Rattle.wire.specs.declared.read_error.ReadError.{ReadError}
-use Rattle.lists.specs.declared.decoding.DecodeError.{DecodeError}
 use Rattle.rollup.proofs.RefusalLaws.{number_some}
 use Rattle.rollup.specs.Accumulator.{Mem, normal_range, sparse_range}
-use Rattle.rollup.specs.Header.{viewed, ask, first_no, data_of, list_of, is_empty, is_value_type, mask_of, state_type, state_version, kind_answer, list_has_precision, data_has_length, needs_pair, pair_in_range, structure_answer, registers_in_range, header_answer, passing, read_header}
+use Rattle.rollup.specs.Header.{viewed, ask, first_no, data_of, list_of, is_empty, mask_of, kind_answer, list_has_precision, data_has_length, needs_pair, pair_in_range, structure_answer, registers_in_range, header_answer, passing, read_header}
 use Rattle.rollup.specs.Adding.{masks_meet, has_field, has_both, same_pair, carried, match_answer, judge, judge_answer, wanted_precision, wanted_registers, wanted_cells, has_room, listed_in}
-use Rattle.rollup.specs.Judging.{judged_means, JudgedInside, HeaderPost, JudgePost, RoomPre, ListedPre}
-use Rattle.rollup.proofs.FitLaws.{both_yes, both_no, above_zero, range_of, ranges_pair, fit_sparse, fit_dense, fit_short}
+use Rattle.rollup.specs.Judging.{judged_means, HeaderPost, JudgePost, RoomPre, ListedPre}
+use Rattle.rollup.proofs.FitLaws.{above_zero, range_of, ranges_pair, fit_sparse, fit_dense, fit_short}
 
 -- ---- Bools
 
@@ -69,7 +66,6 @@ asked false n next e = absurd (let z : ⊥ = omega arith in z)
 
 -- Some that were answered with n, and others that follow.
 module _ (n k next : ℕ) (e : n ≡ k) where
-
   first_go : n ≡ 0 → first_no k next ≡ next
   first_go z = go k next (eq-eqb k 0 (sym e ∙ z))
 
@@ -116,8 +112,6 @@ mask_8 t e = rw e
 pub mask_other : (t : ℕ) → (t ≡ 0 → ⊥) → (t ≡ 7 → ⊥) → (t ≡ 8 → ⊥) → 12 ≡ mask_of t
 mask_other t a b c = rw (ne_eqb t 0 a, ne_eqb t 7 b, ne_eqb t 8 c)
 
--- ---- 7 to 9
-
 -- ---- 10 to 13
 
 -- What is left of the questions after each that is passed.
@@ -133,8 +127,7 @@ from11 st = ask (normal_range st.hll.precision) 11 (from12 st)
 abbrev pub from10 : State → ℕ
 from10 st = ask (list_has_precision st) 10 (from11 st)
 
--- Whether 13 is asked, of a state without list bytes.
-
+-- 13, where it is asked.
 pub pair_asked : (st : State) → needs_pair st ≡ true → sparse_range st.hll.precision st.hll.sparse_precision ≡ pair_in_range st
 pair_asked st e = either_no _ (ap not e)
 
@@ -265,7 +258,6 @@ header_number bytes n = by_length (leb (length bytes) 2147483647)
 -- ---- 15 and 16
 
 module _ (a : Accumulator) (st : State) where
-
   match_facts : match_answer a st ≡ 0 → (masks_meet a st ≡ true) × (carried a st ≡ true)
   unfolding match_answer
   match_facts e = let x = asked (masks_meet a st) 14 _ e in (x.0, (asked (carried a st) 15 0 x.1).0)

@@ -1,6 +1,6 @@
 -- The choice of a path: the answers of its tests, one after the other, and what a path tells of them.
-use Rattle.std.proofs.Common.{◌≡◌, ℕ, ◌+◌, ◌*◌, ◌<◌, ◌≤◌, Bool, true, false, cond, not, ◌&&◌, eqb, leb, List, sym, refl, ap, ◌∙◌, pos_of_ne-zero, arith, le-ltb, lt-ltb, eq-eqb, ne_eqb, eqb-true, le-leb, Option, Some, None}
-use borrow.Author.Tests.{lt-leb, not-false}
+use Rattle.std.proofs.Common.{◌≡◌, ℕ, ◌*◌, ◌<◌, Bool, true, false, cond, not, ◌&&◌, eqb, leb, List, sym, refl, ap, ◌∙◌, pos_of_ne-zero, eq-eqb, eqb-true, Option, Some, None}
+use borrow.Author.Tests.{not-false}
 use Rattle.wire.proofs.BoolLaws.{both_true, never}
 use Rattle.lists.specs.Lists.{distinct_slots}
 use Rattle.rollup.specs.declared.accumulator.Form.{Form}
@@ -8,19 +8,7 @@ use Rattle.rollup.specs.declared.accumulator.Accumulator.{Accumulator}
 use Rattle.rollup.specs.declared.incoming.Incoming.{Incoming}
 use Rattle.rollup.specs.declared.paths.Path.{Path}
 use Rattle.rollup.specs.declared.paths.Path.TheVariants.{Waits, Sorts, Inserts, Merges}
-use Rattle.rollup.specs.Accumulator.{limit, waiting_bound}
 use Rattle.rollup.specs.Taking.{waits, inserts, list_path, path_of}
-
--- ---- the waiting test
-
--- ---- the insertion test
-
-module _ (a : Accumulator) (kept : List ℕ) (k : ℕ) where
-  abbrev long : Bool
-  long = leb (16 * k) a.sparse_len
-
-  abbrev distinct : Bool
-  distinct = distinct_slots a.precision a.sparse_precision kept
 
 -- ---- the path
 

@@ -1,5 +1,5 @@
 -- A refusal has a number above 0, so that an answer of 0 is one that was accepted.
-use Rattle.std.proofs.Common.{◌≡◌, ℕ, ◌<◌, Result, Ok, Err, arith}
+use Rattle.std.proofs.Common.{◌≡◌, ◌<◌, arith}
 use Rattle.wire.specs.Reading.{read_error_number}
 use Rattle.lists.specs.Lists.{decode_refusal}
 use Rattle.wire.specs.declared.read_error.ReadError.{ReadError}

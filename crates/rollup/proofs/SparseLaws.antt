@@ -4,14 +4,12 @@ use mathlib.Core.List.Permᴰ
 use mathlib.Core.List.{Permᴰ}
 use native.Mathlib.Nat.{min-le_left}
 use lib.ListN.{length-replicate}
-use borrow.Rule.Slice.PartMut.{put_mid}
-use Rattle.std.proofs.lemmas.Slice.{take-put_mid}
 use Rattle.wire.proofs.VarintLaws.{side}
 use Rattle.lists.specs.declared.values.Sparse.{Sparse as Encoding}
 use Rattle.lists.specs.declared.merging.Merged.{Merged}
 use Rattle.lists.specs.Pairs.{NewPost}
 use Rattle.lists.specs.Sorting.{ascends, sort_of}
-use Rattle.lists.specs.Lists.{all_valid, written, merged, distinct_slots, MergePost, InsertPre, InsertPost}
+use Rattle.lists.specs.Lists.{all_valid, written, merged, MergePost, InsertPost}
 use Rattle.lists.specs.Merging.{MergePre}
 use Rattle.lists.specs.Registers.{register_bytes, registers_of, with_registers, zeros, raised_by, larger}
 use Rattle.lists.proofs.OrderLaws.{ascends_sort, length_sort, perm_sort}
@@ -25,7 +23,7 @@ use Rattle.rollup.specs.declared.incoming.Incoming.{Incoming}
 use Rattle.rollup.specs.declared.paths.Path.{Path}
 use Rattle.rollup.specs.declared.paths.Path.TheVariants.{Waits, Sorts, Inserts, Merges}
 use Rattle.rollup.specs.Accumulator.{Mem, mem, kept_of, waiting_of, limit}
-use Rattle.rollup.specs.Taking.{After, common_mask, sum_count, counted, with_list, densed, as_list, as_dense, settle, list_path, all_merged, as_waiting, list_after, row_taken, sparse_after, Shows}
+use Rattle.rollup.specs.Taking.{After, counted, with_list, densed, as_list, as_dense, settle, list_path, all_merged, as_waiting, list_after, row_taken, sparse_after, Shows}
 use Rattle.rollup.specs.Adding.{wanted_precision}
 use Rattle.rollup.specs.Stages.{SettlePre, Leaves, BackPre, JoinPre, ListReady, ListRoom, MergeInPre, InsertInPre, DensifyPre, TakingPre}
 use Rattle.rollup.proofs.FitLaws.{FitSparse, fit_sparse, counts_short}

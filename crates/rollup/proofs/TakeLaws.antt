@@ -1,5 +1,5 @@
 -- Taking in: an accepted state can be taken in, and what each form requires of what comes in.
-use Rattle.std.proofs.Common.{◌≡◌, ℕ, ◌<◌, ◌≤◌, true, List, [], length, take, sym, refl, subst, Option, length-take-le, ⊎_elim, le_of_eq, arith}
+use Rattle.std.proofs.Common.{◌≡◌, ℕ, ◌<◌, ◌≤◌, true, List, [], length, take, refl, subst, Option, length-take-le, ⊎_elim, le_of_eq, arith}
 use Rattle.wire.specs.Reading.{got}
 use Rattle.wire.specs.State.{State}
 use Rattle.wire.proofs.VarintLaws.{side}
@@ -12,7 +12,6 @@ use Rattle.rollup.specs.declared.incoming.Incoming.{Incoming}
 use Rattle.rollup.specs.Accumulator.{Mem, fits}
 use Rattle.rollup.specs.Header.{data_of, list_of}
 use Rattle.rollup.specs.declared.paths.Path.{Path}
-use Rattle.rollup.specs.Taking.{taken_after, Shows}
 use Rattle.rollup.specs.Adding.{state_numbers, judge_answer, wanted_precision, has_room, listed_in}
 use Rattle.rollup.specs.Stages.{StartPre, DensePre, TakePre, TakingPre}
 use Rattle.rollup.proofs.FitLaws.{fit_none, fit_sparse, fit_dense}

@@ -1,5 +1,5 @@
 -- The memory that a caller lends.
-use Rattle.std.specs.Prelude.{◌≡◌, ℕ, List, length}
+use Rattle.std.specs.Prelude.{◌≡◌, length}
 use Rattle.rollup.specs.declared.memory.Memory.{Memory}
 use Rattle.rollup.specs.Accumulator.{Mem, mem}
 

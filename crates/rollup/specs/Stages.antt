@@ -13,8 +13,8 @@ use Rattle.lists.specs.declared.merging.Merged.{Merged}
 use Rattle.rollup.specs.declared.accumulator.Form.TheVariants.{Unstarted, Sparse, Dense}
 use Rattle.rollup.specs.declared.accumulator.Accumulator.{Accumulator}
 use Rattle.rollup.specs.declared.incoming.Incoming.{Incoming}
-use Rattle.rollup.specs.Accumulator.{Mem, mem, kept_of, max_pending, fits}
-use Rattle.rollup.specs.Taking.{start_after, After, dense_after, path_of, Shows}
+use Rattle.rollup.specs.Accumulator.{Mem, kept_of, max_pending, fits}
+use Rattle.rollup.specs.Taking.{After, path_of, Shows}
 use Rattle.rollup.specs.Adding.{state_numbers, accepted_after, wanted_registers, AddPost}
 use Rattle.rollup.specs.declared.accumulator.Form.{Form}
 use Rattle.rollup.specs.declared.paths.Path.{Path}

@@ -36,10 +36,7 @@ fn is_value_type(value_type: u32) -> bool
 {
     matches!(
         value_type,
-        VALUE_TYPE_UNKNOWN
-            | VALUE_TYPE_UINT32
-            | VALUE_TYPE_UINT64
-            | VALUE_TYPE_BYTES_OR_UTF8_STRING
+        VALUE_TYPE_UNKNOWN | VALUE_TYPE_UINT32 | VALUE_TYPE_UINT64 | VALUE_TYPE_BYTES_OR_UTF8_STRING
     )
 }
 

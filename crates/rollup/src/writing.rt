@@ -111,12 +111,7 @@ impl Accumulator {
         let enc = self.encoding();
         let u = flush_pending(enc, kept, pending, self.pending_len, scratch);
         let list = &scratch[..u.len];
-        self.write_values(
-            enc.distinct_indices(list) as u32,
-            list,
-            u.bytes,
-            out,
-        )
+        self.write_values(enc.distinct_indices(list) as u32, list, u.bytes, out)
     }
 
     // ---- a dense roll-up

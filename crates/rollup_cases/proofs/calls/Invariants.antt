@@ -3,8 +3,8 @@ use Prim.Native.Nat.{◌≤◌}
 use lib.ListN.{length}
 use Rattle.rollup_cases.proofs.calls.Given as goal
 
-abbrev pub invariant-loop-rest : goal.invariant-loop-rest
-invariant-loop-rest g l = length l.rest ≤ length l.text
+abbrev pub invariant-loop-head : goal.invariant-loop-head
+invariant-loop-head g l = length l.rest ≤ length l.text
 
-abbrev pub decreases-loop-rest : goal.decreases-loop-rest
-decreases-loop-rest g l = length l.rest
+abbrev pub decreases-loop-head : goal.decreases-loop-head
+decreases-loop-head g l = length l.rest

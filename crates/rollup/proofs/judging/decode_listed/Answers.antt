@@ -1,7 +1,6 @@
 -- No bytes are the list of no values; others have a pair that a list can have, and `decode_validated_into` answers for it.
 use Rattle.rollup.specs.Header.{viewed}
-use Rattle.std.proofs.Common.{length, ap, arith}
-use Rattle.rollup.proofs.JudgeLaws.{listed_none, listed_some}
+use Rattle.rollup.proofs.JudgeLaws.{listed_none}
 use Rattle.rollup.proofs.judging.decode_listed.Goals as goal
 
 pub returns-then-list-eq0 : goal.returns-then-list-eq0

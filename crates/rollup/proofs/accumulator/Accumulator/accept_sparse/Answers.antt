@@ -1,11 +1,11 @@
 -- What the path tells gives what its function requires (`densify_pre` to `insert_pre`); each leaves its case of the definition (`shows_row` to `shows_merged`).
-use Rattle.std.proofs.Common.{◌≡◌, ℕ, ◌⊎◌, inl, inr, ⊎_elim, refl, ap, ◌∙◌, Some}
+use Rattle.std.proofs.Common.{◌≡◌, ◌⊎◌, inl, inr, ⊎_elim, refl, ap, ◌∙◌, Some}
 use denote.Enum.Declared.{tag_of}
 use Rattle.rollup.specs.contracts.paths.Path.{the_type}
 use Rattle.rollup.specs.declared.paths.Path.{Path}
 use Rattle.rollup.specs.declared.paths.Path.TheVariants.{Waits, Sorts, Inserts, Merges}
 use Rattle.rollup.proofs.PathLaws.{is_some}
-use Rattle.rollup.proofs.SparseLaws.{densify_pre, wait_pre, merge_pre, insert_pre, shows_row, shows_none, shows_waits, shows_inserted, shows_merged}
+use Rattle.rollup.proofs.SparseLaws.{densify_pre, merge_pre, insert_pre, shows_row, shows_none, shows_waits, shows_inserted, shows_merged}
 use Rattle.rollup.proofs.accumulator.Accumulator.accept_sparse.Goals as goal
 
 -- The arm of two paths is known by their tags.

@@ -1,5 +1,5 @@
 -- Both lists are set, and then the row is taken in (`row_over`).
-use Rattle.std.proofs.Common.{◌≡◌, ℕ, List, ◌++◌, take}
+use Rattle.std.proofs.Common.{◌≡◌, ℕ, ◌++◌, take}
 use Rattle.lists.specs.Registers.{with_registers, zeros, raised_by}
 use Rattle.lists.proofs.RegisterLaws.{row_holds}
 use Rattle.rollup.proofs.SparseLaws.{at_pair, set_room, row_over, densified_shows}

@@ -1,5 +1,5 @@
 -- The values are inserted, and the list is settled (`inserted_shows`).
-use Rattle.rollup.proofs.SparseLaws.{insert_into, inserted_settle, inserted_shows}
+use Rattle.rollup.proofs.SparseLaws.{inserted_settle, inserted_shows}
 use Rattle.rollup.proofs.accumulator.Accumulator.insert_in.Goals as goal
 
 pub settle-requires : goal.settle-requires

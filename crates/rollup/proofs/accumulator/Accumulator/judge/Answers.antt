@@ -1,5 +1,5 @@
 -- What the questions before refuse is refused; else the match answers (`judge_no`, `judge_yes`).
-use Rattle.std.proofs.Common.{◌≡◌, ◌∙◌, ap, sym, subst, Err}
+use Rattle.std.proofs.Common.{◌∙◌, ap, sym, subst, Err}
 use Rattle.std.proofs.lemmas.Result.{err_from_is_err_and}
 use Rattle.rollup.specs.Judging.{JudgePost}
 use Rattle.rollup.proofs.JudgeLaws.{judge_refused, judge_no, judge_yes}

@@ -10,8 +10,8 @@ slice_bounds-lists_fit-end c =
     let a = c.args.self in
     let e : counts_fit a (length c.args.sparse.now) (length c.args.pending.now) ≡ true =
     elim c.if-ranges_fit.branch [
-      then-ranges_fit w ↦ sym w.counts_fit.ensures ∙ sym w.value-is ∙ c.if-counts_fit.true
-    | else-ranges_fit w ↦ absurd (true≢false (sym c.if-counts_fit.true ∙ w.value-is ∙ w.if-ranges_fit.false))
+      | then-ranges_fit w ↦ sym w.counts_fit.ensures ∙ sym w.value-is ∙ c.if-counts_fit.true
+      | else-ranges_fit w ↦ absurd (true≢false (sym c.if-counts_fit.true ∙ w.value-is ∙ w.if-ranges_fit.false))
     ] in
     sym (length-take-le a.sparse_len c.args.sparse.now (counts_of a _ _ e).kept_in)
 
@@ -20,7 +20,7 @@ slice_bounds-lists_fit-end-then-counts_fit c =
     let a = c.args.self in
     let e : counts_fit a (length c.args.sparse.now) (length c.args.pending.now) ≡ true =
     elim c.if-ranges_fit.branch [
-      then-ranges_fit w ↦ sym w.counts_fit.ensures ∙ sym w.value-is ∙ c.if-counts_fit.true
-    | else-ranges_fit w ↦ absurd (true≢false (sym c.if-counts_fit.true ∙ w.value-is ∙ w.if-ranges_fit.false))
+      | then-ranges_fit w ↦ sym w.counts_fit.ensures ∙ sym w.value-is ∙ c.if-counts_fit.true
+      | else-ranges_fit w ↦ absurd (true≢false (sym c.if-counts_fit.true ∙ w.value-is ∙ w.if-ranges_fit.false))
     ] in
     sym (length-take-le a.pending_len c.args.pending.now (counts_of a _ _ e).waiting_in)

@@ -1,8 +1,5 @@
 -- Each form has its function, which requires what taking in does (`start_pre`, `dense_pre`) and leaves its case of the definition.
-use Rattle.std.proofs.Common.{take}
-use Rattle.rollup.specs.Lent.{mem_of}
-use Rattle.rollup.specs.declared.accumulator.Form.TheVariants.{Unstarted, Sparse, Dense}
-use Rattle.rollup.proofs.TakeLaws.{start_pre, dense_pre, taken_by}
+use Rattle.rollup.proofs.TakeLaws.{start_pre, dense_pre}
 use Rattle.rollup.proofs.accumulator.Accumulator.take.Goals as goal
 
 pub start-requires : goal.start-requires
