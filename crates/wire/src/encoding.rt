@@ -1,5 +1,5 @@
 // Writing a state. Ported from `StateView::encode` in src/proto.rs of zetasketch-rs at commit 9abe68bf87 (Apache-2.0, see NOTICE).
-// Changed: the output is lent, and the lengths are taken first, so that nothing is written where it is too short. ((d) A length and what
+// Changed: the output is lent, and the lengths are taken first, so that nothing is written where it is too short. (A length and what
 // puts it are two functions: one over a sink that counts or writes wants a trait, its ghost members, the laws that join two parts and two
 // impls, which is more than the seven functions that it spares.)
 ghost use Rattle.std.specs.Prelude.{◌≡◌, [], ◌+◌, ◌≤◌, ◌<◌, ◌^◌, length};

@@ -19,7 +19,7 @@ pub struct HllFields {
     pub precision: u32,
     // s, the sparse precision.
     pub sparse_precision: u32,
-    // Whether each data field is there. An absent one starts at 0 and has no bytes. ((a) the flags stand here, and no `Option<Part>`, since
+    // Whether each data field is there. An absent one starts at 0 and has no bytes. (The flags stand here, and no `Option<Part>`, since
     // the state is "a struct holding the bytes, with field starts and presence", and a copy of a struct with seven unused bytes inside is slow.)
     pub data_present: bool,
     pub sparse_data_present: bool,
@@ -152,7 +152,7 @@ fn hll_field(
 }
 
 // The nested message, which is a part of the state's bytes that starts at `base`. What was read of an earlier one stays where this one
-// has no field for it. ((d) This loop, that of `parse_general` and the two of compact.rt stay four: a function over a closure or a trait for the
+// has no field for it. (This loop, that of `parse_general` and the two of compact.rt stay four: a function over a closure or a trait for the
 // turn wants a contract at each of the four turns, and spares four lines in each.)
 fn parse_hll(m: &[u8], base: usize, earlier: HllFields) -> Result<HllFields, ReadError>
     requires { base + length m.now < 2 ^ 64 }

@@ -48,7 +48,7 @@ pub(crate) fn read_varint32(s: &[u8], c: Cursor) -> Result<(u32, Cursor), ReadEr
     Ok(((v % 0x1_0000_0000) as u32, next))
 }
 
-// Writes a value at `start`, and answers the position past it. ((d) The loop here and in `varint_len_64` goes by a value, not by a count.)
+// Writes a value at `start`, and answers the position past it. (The loop here and in `varint_len_64` goes by a value, not by a count.)
 pub fn put_varint(out: &mut [u8], start: usize, value: u64) -> usize
     requires { start + length (varint_bytes 10 value) ≤ length out.old }
     ensures { PutPost out.old start (varint_bytes 10 value) result out.new }
@@ -77,7 +77,7 @@ pub fn varint_len(v: u32) -> usize
     }
 }
 
-// The same of any value: 1 to 10. ((d) Not one function with `varint_len`, which tells five cases apart without a loop.)
+// The same of any value: 1 to 10. (Not one function with `varint_len`, which tells five cases apart without a loop.)
 pub fn varint_len_64(v: u64) -> usize
     ensures { result ≡ length (varint_bytes 10 v) }
 {
