@@ -7,7 +7,6 @@ use Prim.Native.Nat.{ℕ, ◌<◌, ◌≤◌}
 use native.Mathlib.Omega.{arith}
 use lib.ListN.{length, take, get_or}
 use lib.Seq.{length-sets}
-use borrow.Author.Tests.{lt-leb}
 use Rattle.std.specs.Counts.{IsPrefixLen}
 use Rattle.console.specs.declared.input.StreamError.TheVariants.{Failed, Full}
 use Rattle.console.specs.Input.{Stream}
@@ -18,7 +17,7 @@ use Rattle.console.specs.Output.{out, SaidPost}
 use Rattle.console.proofs.OutputLaws.{said_out, said_err}
 use Rattle.batch.specs.declared.closing.Report.{Report}
 use Rattle.batch.specs.Chain.{is_batch}
-use Rattle.batch.proofs.ChainLaws.{long_enough}
+use Rattle.std.proofs.Common.{rules}
 use Rattle.batch.proofs.ClosingLaws.{few_records, written_inside}
 use Rattle.batch.proofs.CountLaws.{reported_few}
 use Rattle.batch.proofs.NoBatchLaws.{no_batch_report}
@@ -43,7 +42,7 @@ reports_24 {answers = answers} {output = output} e p = text_24 answers output (n
 
 -- So are more than it may have.
 long_24 : (batch : List ℕ) → 65536 < length batch → is_batch batch ≡ false
-long_24 batch long = sym (long_enough batch (omega arith)) ∙ lt-leb (length batch) 65536 long
+long_24 batch long = search rules
 
 -- ---- what is heard
 

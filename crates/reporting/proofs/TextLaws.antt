@@ -19,7 +19,7 @@ use Rattle.rollup.specs.Accumulator.{fresh}
 use Rattle.batch.specs.declared.records.Ending.{Ending}
 use Rattle.batch.specs.declared.records.Ending.TheVariants.{Refused}
 use Rattle.batch.specs.declared.chain.ChainError.TheVariants.{NoBatch}
-use Rattle.std.specs.Prelude.{⊤, Option, Some, Result, Ok, Err}
+use Rattle.std.specs.Prelude.{⊤, Option, Some, Result, Err}
 use Rattle.batch.proofs.NoBatchLaws.{NoneRolled}
 use Rattle.reporting.specs.Numbers.{signed_text, number_text}
 use Rattle.batch.specs.declared.closing.Report.{Report}
