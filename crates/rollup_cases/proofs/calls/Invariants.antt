@@ -1,5 +1,4 @@
 -- `calls` meets its contract and ends: a line ends inside the text, and the next one starts behind it; lent memory keeps its lengths.
-use mathlib.Core.Path.{◌≡◌}
 use Prim.Native.Nat.{◌+◌, ◌-◌, ◌≤◌}
 use lib.ListN.{length}
 use Rattle.rollup_cases.proofs.calls.Given as goal

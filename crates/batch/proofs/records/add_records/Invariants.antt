@@ -13,7 +13,7 @@ invariant-loop-at l = record {
   going : Going l.batch (mem_of l.initial.memory) (length l.initial.memory.scratch.now) l.before l.at l.k l.fitted.head (mem_of l.memory) l.initial.answers l.answers;
   same : SameLent l.initial.memory l.memory;
   cells : length l.answers ≡ length l.initial.answers;
-  known : KnownDistinct l.fitted.distinct l.fitted.head.precision l.fitted.head.sparse_precision (kept_of l.fitted.head (mem_of l.memory))
+  known : KnownDistinct l.fitted.distinct l.fitted.head.precision l.fitted.head.sparse_precision (kept_of l.fitted.head (mem_of l.memory));
 }
 
 abbrev pub decreases-loop-at : goal.decreases-loop-at
