@@ -1,4 +1,5 @@
 // What the programs that replay cases print, by `fmt`, of which no contract speaks.
+use crate::input::Pieces;
 use std::io::Print;
 use std::{fmt, io};
 
@@ -12,28 +13,6 @@ impl fmt::Display for Hex<'_> {
             write!(f, "{b:02x}")?;
         }
         Ok(())
-    }
-}
-
-// The signed number of these 32 bits.
-#[derive(Clone, Copy)]
-pub struct Int32(pub u32);
-
-impl fmt::Display for Int32 {
-    fn fmt<W: fmt::Write>(&self, f: &mut fmt::Formatter<W>) -> fmt::Result {
-        let v = self.0.cast_signed();
-        write!(f, "{v}")
-    }
-}
-
-// The signed number of these 64 bits.
-#[derive(Clone, Copy)]
-pub struct Int64(pub u64);
-
-impl fmt::Display for Int64 {
-    fn fmt<W: fmt::Write>(&self, f: &mut fmt::Formatter<W>) -> fmt::Result {
-        let v = self.0.cast_signed();
-        write!(f, "{v}")
     }
 }
 
@@ -63,4 +42,21 @@ pub fn print_line(rt: &impl Print, line: &[u8]) -> io::Result<()> {
 // What is printed of a case that has not the operands that it should have.
 pub fn bad_case(rt: &impl Print) -> io::Result<()> {
     println!(rt; "bad case")
+}
+
+// Replays the cases of a text, of which each goes up to the next `end`. A write that fails ends it, and leaves the output short, which a comparison shows: a
+// `main` that answered it would rest on one more function of C.
+pub fn replay<P: Print, F: Fn(&P, &[u8]) -> io::Result<()> + Drop>(
+    rt: &P,
+    text: &[u8],
+    end: u8,
+    case: F,
+)
+    requires { F.IsAlwaysCallable case }
+{
+    for piece in Pieces::new(text, end) {
+        if case(rt, piece).is_err() {
+            return;
+        }
+    }
 }

@@ -4,9 +4,9 @@
 #![tactic(auto)]
 
 use batch::unpacking;
-use console::input::{Pieces, cut, read_bytes, read_cases, read_number};
+use console::input::{cut, read_bytes, read_cases, read_number};
 use console::memory::filled;
-use console::show::{Hex, bad_case, print_line};
+use console::show::{Hex, bad_case, print_line, replay};
 use console::text::word;
 use exports::packing;
 use exports::packing::PackError;
@@ -76,16 +76,8 @@ fn case(rt: &impl Print, lines: &[u8]) -> io::Result<()> {
     numbered(rt, room, others, &mut out)
 }
 
-fn replay(rt: &impl Print, text: &[u8]) -> io::Result<()> {
-    for lines in Pieces::new(text, b'|') {
-        case(rt, lines)?;
-    }
-    Ok(())
-}
-
-// A write that fails leaves the output short, which a comparison shows. A `main` that answers it would rest on one more function of C.
 fn main(rt: HostRuntime) {
     let mut buf: [u8; 65536] = filled(0);
     let n = read_cases(&mut rt.stdin(), &rt.stderr(), "exports_cases", &mut buf);
-    let _ = replay(&rt, &buf[..n]);
+    replay(&rt, &buf[..n], b'|', case);
 }

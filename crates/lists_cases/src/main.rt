@@ -8,10 +8,10 @@ ghost use Rattle.lists.specs.Values.{valid};
 ghost use Rattle.lists.specs.Registers.{LowerPre};
 ghost use Rattle.lists_cases.specs.Tests.{Mergeable, Insertable};
 
-use console::input::{Pieces, read_bytes, read_cases};
+use console::input::{read_bytes, read_cases};
 use console::memory::filled;
 use console::output::all_are;
-use console::show::{Hex, List, bad_case, print_line};
+use console::show::{Hex, List, bad_case, print_line, replay};
 use console::text::{precision, read_list, read_value, word};
 use lists::merging::Merged;
 use lists::values::Sparse;
@@ -149,13 +149,7 @@ fn print_merged(rt: &impl Print, list: &[u32], bytes: usize) -> io::Result<()> {
 fn merges(enc: Sparse, l: &[u32]) -> bool
     ensures { result ≡ true → Mergeable enc.normal_precision enc.sparse_precision l.now }
 {
-    if 512 < l.len() {
-        return false;
-    }
-    if !lists::checking::is_ascending(l) {
-        return false;
-    }
-    enc.all_valid(l)
+    l.len() <= 512 && lists::checking::is_ascending(l) && enc.all_valid(l)
 }
 
 fn merge_case(rt: &impl Print, enc: Sparse, a: &[u32], b: &[u32]) -> io::Result<()> {
@@ -186,19 +180,10 @@ fn merge_line(rt: &impl Print, enc: Sparse, line: &[u8]) -> io::Result<()> {
 fn inserts(enc: Sparse, l: &[u32], bytes: usize) -> bool
     ensures { result ≡ true → Insertable enc.normal_precision enc.sparse_precision l.now bytes }
 {
-    if !merges(enc, l) {
-        return false;
-    }
-    if !enc.has_distinct_slots(l) {
-        return false;
-    }
-    if bytes < lists::merging::written_len(l) {
-        return false;
-    }
-    if 0xffff_ffff < bytes {
-        return false;
-    }
-    true
+    merges(enc, l)
+        && enc.has_distinct_slots(l)
+        && lists::merging::written_len(l) <= bytes
+        && bytes <= 0xffff_ffff
 }
 
 // Values go into the first n of `union`.
@@ -312,17 +297,9 @@ fn set_line(rt: &impl Print, enc: Sparse, line: &[u8]) -> io::Result<()> {
 fn lowers(p: u32, d: u32, registers: &[u8]) -> bool
     ensures { result ≡ true → LowerPre p d registers.now }
 {
-    if !tests::holds(p, registers) {
-        return false;
-    }
-    if p < d {
-        return false;
-    }
-    let top = lists::registers::largest_register(registers, p);
-    if 255 - top < d as u8 {
-        return false;
-    }
-    true
+    tests::holds(p, registers)
+        && d <= p
+        && d as u8 <= 255 - lists::registers::largest_register(registers, p)
 }
 
 // The source's registers of precision p go into the target's of precision q.
@@ -420,16 +397,8 @@ fn case(rt: &impl Print, line: &[u8]) -> io::Result<()> {
     }
 }
 
-fn replay(rt: &impl Print, text: &[u8]) -> io::Result<()> {
-    for line in Pieces::new(text, b'\n') {
-        case(rt, line)?;
-    }
-    Ok(())
-}
-
-// A write that fails leaves the output short, which a comparison shows. A `main` that answers it would rest on one more function of C.
 fn main(rt: HostRuntime) {
     let mut buf: [u8; 65536] = filled(0);
     let n = read_cases(&mut rt.stdin(), &rt.stderr(), "lists_cases", &mut buf);
-    let _ = replay(&rt, &buf[..n]);
+    replay(&rt, &buf[..n], b'\n', case);
 }

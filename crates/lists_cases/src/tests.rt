@@ -7,30 +7,12 @@ ghost use Rattle.lists.specs.Registers.{Holds};
 pub(crate) fn fits(p: u32, s: u32) -> bool
     ensures { result ≡ true → Pair p s }
 {
-    if p < 4 {
-        return false;
-    }
-    if 24 < p {
-        return false;
-    }
-    if s < p {
-        return false;
-    }
-    if 25 < s {
-        return false;
-    }
-    true
+    (4..=24).contains(&p) && (p..=25).contains(&s)
 }
 
 // Whether these bytes hold the registers of a precision.
 pub(crate) fn holds(p: u32, registers: &[u8]) -> bool
     ensures { result ≡ true → Holds p registers.now }
 {
-    if 24 < p {
-        return false;
-    }
-    if registers.len() < lists::registers::register_bytes(p) {
-        return false;
-    }
-    true
+    p <= 24 && lists::registers::register_bytes(p) <= registers.len()
 }

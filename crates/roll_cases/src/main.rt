@@ -2,9 +2,9 @@
 // vectors were made, is said in compare/vectors/README.md.
 #![tactic(auto)]
 
-use console::input::{Pieces, read_cases};
+use console::input::read_cases;
 use console::memory::filled;
-use console::show::{bad_case, print_line};
+use console::show::{bad_case, print_line, replay};
 use std::io;
 use std::io::Print;
 
@@ -29,16 +29,8 @@ fn case(rt: &impl Print, line: &[u8]) -> io::Result<()> {
     }
 }
 
-fn replay(rt: &impl Print, text: &[u8]) -> io::Result<()> {
-    for line in Pieces::new(text, b'\n') {
-        case(rt, line)?;
-    }
-    Ok(())
-}
-
-// A write that fails leaves the output short, which a comparison shows. A `main` that answers it would rest on one more function of C.
 fn main(rt: HostRuntime) {
     let mut buf: [u8; 524288] = filled(0);
     let n = read_cases(&mut rt.stdin(), &rt.stderr(), "roll_cases", &mut buf);
-    let _ = replay(&rt, &buf[..n]);
+    replay(&rt, &buf[..n], b'\n', case);
 }

@@ -4,10 +4,10 @@
 
 ghost use Rattle.std.specs.Prelude.{◌≤◌, length};
 
-use console::input::{Pieces, cut, read_bytes, read_cases, read_number};
+use console::input::{cut, read_bytes, read_cases, read_number};
 use console::memory::filled;
 use console::output::all_are;
-use console::show::{Hex, Int32, Int64, bad_case, print_line};
+use console::show::{Hex, bad_case, print_line, replay};
 use std::io;
 use std::io::Print;
 use wire::varint::Cursor;
@@ -30,12 +30,12 @@ fn print_part(rt: &impl Print, present: bool, bytes: &[u8]) -> io::Result<()> {
 fn print_fields(rt: &impl Print, view: StateView) -> io::Result<()> {
     let f = view.fields;
     let h = f.hll;
-    let (kind, count) = (Int32(f.aggregator_type), Int64(f.num_values));
-    let (version, value_type) = (Int32(f.encoding_version), Int32(f.value_type));
+    let (kind, count) = (f.aggregator_type.cast_signed(), f.num_values.cast_signed());
+    let (version, value_type) = (f.encoding_version.cast_signed(), f.value_type.cast_signed());
     let (size, p, s) = (
-        Int32(h.sparse_size),
-        Int32(h.precision),
-        Int32(h.sparse_precision),
+        h.sparse_size.cast_signed(),
+        h.precision.cast_signed(),
+        h.sparse_precision.cast_signed(),
     );
     print!(rt; "{kind} {count} {version} {value_type} {size} {p} {s} ")?;
     print_part(rt, h.data_present, view.data())?;
@@ -150,16 +150,8 @@ fn case(rt: &impl Print, line: &[u8]) -> io::Result<()> {
     }
 }
 
-fn replay(rt: &impl Print, text: &[u8]) -> io::Result<()> {
-    for line in Pieces::new(text, b'\n') {
-        case(rt, line)?;
-    }
-    Ok(())
-}
-
-// A write that fails leaves the output short, which a comparison shows. A `main` that answers it would rest on one more function of C.
 fn main(rt: HostRuntime) {
     let mut buf: [u8; 65536] = filled(0);
     let n = read_cases(&mut rt.stdin(), &rt.stderr(), "wire_cases", &mut buf);
-    let _ = replay(&rt, &buf[..n]);
+    replay(&rt, &buf[..n], b'\n', case);
 }
