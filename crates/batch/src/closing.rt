@@ -64,7 +64,7 @@ pub fn roll(
 {
     let rolled = records::roll_up(batch, memory, answers);
     let not_zero = not_zero(rolled.head, memory, spare);
-    // Each slice is lent by itself: the borrow checker does not cover fields that are lent one after the other in a call.
+    // Each slice is lent by itself: fields behind a reference that are lent one after the other in a call are not covered.
     let (registers, sparse, pending, scratch) = (
         &mut *memory.registers,
         &mut *memory.sparse,

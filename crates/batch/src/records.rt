@@ -36,7 +36,7 @@ pub struct Rolled {
     pub ending: Result<(), Ending>,
 }
 
-// Adds the states in the order of the chain, puts each answer into its cell, and counts the records.
+// Adds the states in the order of the chain, puts each answer into its cell, and counts the records, which are told after an error, too.
 fn add_records(
     batch: &[u8],
     fitted: &mut Fitted,
@@ -50,6 +50,7 @@ fn add_records(
 {
     for record in Records::new(batch)? {
         let record = record?;
+        // Not by `get_mut`: its cell would be lent while the state is added, and the proof has no name for what it leaves.
         if *records == answers.len() {
             return Err(Ending::Full);
         }
