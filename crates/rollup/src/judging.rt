@@ -75,9 +75,9 @@ impl Accumulator {
         ensures read { JudgePost self bytes.now result }
         ensures same { IfOk result (λ v. v.bytes ≡ bytes.entry) }
     {
-        let view = read_header(bytes)?;
-        self.validate_match(view)?;
-        Ok(view)
+        let state = read_header(bytes)?;
+        self.validate_match(state)?;
+        Ok(state)
     }
 
     // The precision whose registers 17 asks for.
