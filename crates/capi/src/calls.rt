@@ -7,7 +7,6 @@ ghost use Rattle.capi.specs.Folds.{FoldRowPost};
 
 use crate::{folding, heads};
 use rollup::accumulator::Accumulator;
-use rollup::memory::Memory;
 
 // Puts a fresh head into the row; 1 where it has no ten cells.
 pub fn filmoed_fresh(head: &mut [u64]) -> u8
@@ -35,13 +34,7 @@ pub fn filmoed_add(
     let Some(mut a) = heads::read_head(head) else {
         return 1;
     };
-    let mut memory = Memory {
-        registers,
-        sparse,
-        pending,
-        scratch,
-    };
-    let answer = folding::add_one(&mut a, &mut memory, state);
+    let answer = folding::add_one(&mut a, registers, sparse, pending, scratch, state);
     heads::put_head(head, a);
     answer
 }
@@ -102,13 +95,9 @@ pub fn filmoed_fold(
     let Some(mut a) = heads::read_head(head) else {
         return 1;
     };
-    let mut memory = Memory {
-        registers,
-        sparse,
-        pending,
-        scratch,
-    };
-    match folding::fold(&mut a, &mut memory, states, ends, answers) {
+    match folding::fold(
+        &mut a, registers, sparse, pending, scratch, states, ends, answers,
+    ) {
         Ok(()) => {
             heads::put_head(head, a);
             0

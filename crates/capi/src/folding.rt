@@ -1,6 +1,7 @@
 // Many states, added one after the other: question 1 is asked once, and then each state goes to `Fitted::add`, which does not ask it again. One state is a fold of one: with a
 // single call of it in the library LLVM puts its code into the loop, and the head stays where it is from turn to turn.
 ghost use Rattle.std.specs.Prelude.{◌≡◌, true, ◌&&◌, leb, length};
+ghost use Rattle.rollup.specs.Accumulator.{mem};
 ghost use Rattle.rollup.specs.Lent.{mem_of, SameLent};
 ghost use Rattle.rollup.specs.Refusals.{answer_of};
 ghost use Rattle.rollup.specs.Adding.{AddPost};
@@ -58,33 +59,57 @@ fn fold_states(
     fitted.head
 }
 
-// Question 1, once, and then the states. The answer is to that question; each state has its own.
+// Question 1, once, and then the states. The answer is to that question; each state has its own. The memory is put together here, in the function that has
+// the loop, so that LLVM has its slices in hand: those of a struct behind a reference are read again in each turn.
 pub(crate) fn fold(
     head: &mut Accumulator,
-    memory: &mut Memory,
+    registers: &mut [u8],
+    sparse: &mut [u32],
+    pending: &mut [u32],
+    scratch: &mut [u32],
     bytes: &[u8],
     ends: &[u64],
     answers: &mut [u8],
 ) -> Result<(), Refusal>
     requires { fold_fits bytes.now ends.now answers.old ≡ true }
-    ensures folded { FoldPost head.old (mem_of memory.old) (length memory.old.scratch.now) bytes.now ends.now answers.old (answer_of result) head.new (mem_of memory.new) answers.new }
-    ensures same { SameLent memory.old memory.new }
+    ensures { FoldPost head.old (mem registers.old sparse.old pending.old) (length scratch.old) bytes.now ends.now answers.old (answer_of result) head.new (mem registers.new sparse.new pending.new) answers.new }
 {
-    if !head.fits_in(memory) {
+    if !head.fits(registers, sparse, pending) {
         return Err(Refusal::Misfit);
     }
-    *head = fold_states(*head, memory, bytes, ends, answers);
+    let mut memory = Memory {
+        registers,
+        sparse,
+        pending,
+        scratch,
+    };
+    *head = fold_states(*head, &mut memory, bytes, ends, answers);
     Ok(())
 }
 
 // Adds one state: what `Accumulator::add` of `rollup` promises, by a fold of one.
-pub(crate) fn add_one(head: &mut Accumulator, memory: &mut Memory, state: &[u8]) -> u8
-    ensures post { AddPost head.old (mem_of memory.old) (length memory.old.scratch.now) state.now result head.new (mem_of memory.new) }
-    ensures same { SameLent memory.old memory.new }
+pub(crate) fn add_one(
+    head: &mut Accumulator,
+    registers: &mut [u8],
+    sparse: &mut [u32],
+    pending: &mut [u32],
+    scratch: &mut [u32],
+    state: &[u8],
+) -> u8
+    ensures { AddPost head.old (mem registers.old sparse.old pending.old) (length scratch.old) state.now result head.new (mem registers.new sparse.new pending.new) }
 {
     let ends = [state.len() as u64];
     let mut answers = [0];
-    match fold(head, memory, state, &ends, &mut answers) {
+    match fold(
+        head,
+        registers,
+        sparse,
+        pending,
+        scratch,
+        state,
+        &ends,
+        &mut answers,
+    ) {
         Ok(()) => answers[0],
         Err(e) => e.number(),
     }

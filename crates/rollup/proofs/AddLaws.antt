@@ -20,7 +20,7 @@ use Rattle.rollup.specs.Header.{viewed, data_of, list_of}
 use Rattle.rollup.specs.Taking.{After, path_of, taken_after, Shows, Free}
 use Rattle.rollup.specs.Adding.{Outcome, refuse, accept, numbers_of, state_numbers, accepted_after, judge, has_room, listed_in, question, opened, add_outcome, judge_answer, AddPost}
 use Rattle.rollup.specs.Judging.{JudgePost, RoomPre, ListedPre}
-use Rattle.rollup.specs.Stages.{KnownDistinct, InsertsPre, PathPre, TakePre, TakingPre, distinct_after, AcceptPre, AcceptPost, FittingPost}
+use Rattle.rollup.specs.Stages.{KnownDistinct, InsertsPre, PathPre, distinct_after, AcceptPre, AcceptPost, FittingPost}
 use Rattle.rollup.proofs.FitLaws.{fit_sparse}
 use Rattle.rollup.proofs.JudgeLaws.{judged_state, judged_short, listed_pre}
 use Rattle.rollup.proofs.TakeLaws.{fit_kept, Ready, ready_takes}
@@ -142,16 +142,6 @@ module _ {a : Accumulator} {distinct : Bool} {m : Mem} {scratch : List ℕ} {st 
     module _ {path : Option Path} (its : path ≡ path_of a.form a kept x k) {row : List ℕ} (same : row ≡ data_of st) where
       its_path : path ≡ path_of a.form a (kept_of a m) x k
       its_path = its ∙ ap (λ (l : List ℕ). path_of a.form a l x k) there
-
-      pub accept_taking : TakingPre a m scratch x path row k
-      accept_taking =
-          record {
-            inside = pre.inside;
-            taken =
-                subst (λ (y : Incoming). TakePre a m (length scratch) y row vs) (sym the_state)
-                (subst (λ (l : List ℕ). TakePre a m (length scratch) (state_numbers st vs) l vs) (sym same) pre.taken);
-            its = its_path;
-          }
 
       pub accept_post : {known : Bool} → known ≡ distinct_after a.form path distinct → {r : Accumulator} {n : Mem}
           → Shows (taken_after a.form a m x row vs) r n → AcceptPost a m st vs (record { head = r; distinct = known }) n

@@ -1,19 +1,16 @@
 -- The paths of a dense roll-up: what the calls of each function leave is what the definitions have.
-use Rattle.std.proofs.Common.{◌≡◌, ℕ, ◌+◌, ◌-◌, ◌^◌, ◌<◌, ◌≤◌, min, true, List, [], ◌++◌, length, take, replicate, sym, refl, ap, ◌∙◌, subst, ap₂, append-nil, le_trans, arith, length-append, pow_mono}
+use Rattle.std.proofs.Common.{◌≡◌, ℕ, ◌+◌, ◌-◌, ◌^◌, ◌<◌, ◌≤◌, min, List, [], ◌++◌, length, take, replicate, sym, refl, ap, ◌∙◌, subst, ap₂, append-nil, le_trans, arith, length-append, pow_mono}
 use mathlib.Core.List.{Permᴰ}
 use native.Mathlib.Nat.{min-le_left, min-le_right}
 use lib.ListN.{length-replicate}
-use Rattle.lists.specs.declared.values.Sparse.{Sparse as Encoding}
-use Rattle.lists.specs.Pairs.{NewPost}
-use Rattle.lists.specs.Lists.{all_valid}
-use Rattle.lists.specs.Registers.{register_bytes, registers_of, with_registers, raised_lower, larger, lowered, largest, lowered_in_place, BothHold, LowerPre, DowngradePre, SetListPre}
+use Rattle.lists.specs.Registers.{register_bytes, registers_of, with_registers, larger, lowered, largest, lowered_in_place, BothHold, DowngradePre}
 use Rattle.lists.proofs.RegisterLaws.{with_room, of_length, with_of, row_holds, row_registers, fewer_bytes, of_front, with_front}
 use Rattle.lists.proofs.RankLaws.{registers_same, lowered_length}
 use Rattle.rollup.specs.declared.accumulator.Accumulator.{Accumulator}
 use Rattle.rollup.specs.declared.incoming.Incoming.{Incoming}
 use Rattle.rollup.specs.Accumulator.{mem}
 use Rattle.rollup.specs.Taking.{After, dense_head, counted, signed_min, raised_to, dense_after, Shows}
-use Rattle.rollup.specs.Stages.{LowerOwnPre, LowerOwnPost, RaiseByRowPre, RaiseByListPre, RaisePre, DensePre}
+use Rattle.rollup.specs.Stages.{LowerOwnPre, LowerOwnPost, RaiseByRowPre, RaisePre, DensePre}
 
 -- ---- the roll-up's own registers
 
@@ -35,13 +32,6 @@ module _ (p other : ℕ) (registers : List ℕ) (pre : LowerOwnPre p registers) 
   own_kept h =
       let e : p ≡ min p other = omega arith in
       record { smaller = e; left = sym (own_same p registers pre.room) ∙ ap lowered_to e }
-
-  pub own_lower : other < p → LowerPre p (p - other) registers
-  own_lower h = record { holds = record { high = pre.high; room = pre.room }; fewer = omega arith; small = omega (arith, pre.small) }
-
-  pub own_lowered : (after : List ℕ) → other < p → after ≡ with_registers p (lowered_in_place p (p - (p - other)) (registers_of p registers)) registers
-      → LowerOwnPost p other registers other after
-  own_lowered after h e = record { smaller = omega arith; left = e ∙ ap lowered_to (let f : p - (p - other) ≡ min p other = omega arith in f) }
 
 -- ---- a row
 
@@ -91,37 +81,6 @@ module _ (q p : ℕ) (row registers : List ℕ) (pre : RaiseByRowPre q p row reg
       ∙ ap (λ (l : List ℕ). with_registers q (larger (registers_of q registers) l) registers)
       (row_registers q row (row_at h)
       ∙ sym (ap (λ (d : ℕ). lowered d q row) (let g : p - q ≡ 0 = omega arith in g) ∙ registers_same q row (row_at h)))
-
--- ---- values
-
-module _ (q p s : ℕ) (vs registers : List ℕ) (pre : RaiseByListPre q p s vs registers) (enc : Encoding) (new : NewPost p s enc) where
-  list_valid : all_valid enc.normal_precision enc.sparse_precision vs ≡ true
-  list_valid = ap₂ (λ (a b : ℕ). all_valid a b vs) new.normal new.sparse ∙ pre.all
-
-  -- The registers' precision, as the lists' functions have it.
-  list_place : enc.normal_precision - (p - q) ≡ q
-  list_place = omega (arith, new.normal, pre.order)
-
-  pub list_set : SetListPre enc (p - q) vs registers
-  list_set =
-      record {
-        ok = list_valid;
-        few = omega (arith, pre.low, pre.pair.high);
-        fewer = omega (arith, new.normal);
-        room = subst (λ (n : ℕ). register_bytes n ≤ length registers) (sym list_place) pre.room;
-      }
-
-  pub list_raised : (after : List ℕ)
-      → after
-      ≡ with_registers (enc.normal_precision - (p - q))
-      (raised_lower enc.normal_precision enc.sparse_precision (p - q) (registers_of (enc.normal_precision - (p - q)) registers) vs) registers
-      → after ≡ with_registers q (raised_lower p s (p - q) (registers_of q registers) vs) registers
-  list_raised after e =
-      e
-      ∙ ap
-      (λ (n : ℕ).
-      with_registers n (raised_lower enc.normal_precision enc.sparse_precision (p - q) (registers_of n registers) vs) registers) list_place
-      ∙ ap₂ (λ (a b : ℕ). with_registers q (raised_lower a b (p - q) (registers_of q registers) vs) registers) new.normal new.sparse
 
 -- ---- a dense roll-up
 

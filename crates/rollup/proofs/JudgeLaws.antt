@@ -25,7 +25,7 @@ use Rattle.lists.specs.Lists.{Decodes}
 use Rattle.wire.specs.declared.read_error.ReadError.{ReadError}
 use Rattle.rollup.proofs.RefusalLaws.{number_some}
 use Rattle.rollup.specs.Accumulator.{Mem, normal_range, sparse_range}
-use Rattle.rollup.specs.Header.{viewed, ask, first_no, data_of, list_of, is_empty, mask_of, kind_answer, list_has_precision, data_has_length, needs_pair, pair_in_range, structure_answer, registers_in_range, header_answer, passing, read_header}
+use Rattle.rollup.specs.Header.{viewed, ask, first_no, data_of, list_of, is_empty, kind_answer, list_has_precision, data_has_length, needs_pair, pair_in_range, structure_answer, registers_in_range, header_answer, passing, read_header}
 use Rattle.rollup.specs.Adding.{masks_meet, has_field, has_both, same_pair, carried, match_answer, judge, judge_answer, wanted_precision, wanted_registers, wanted_cells, has_room, listed_in}
 use Rattle.rollup.specs.Judging.{judged_means, HeaderPost, JudgePost, RoomPre, ListedPre}
 use Rattle.rollup.proofs.FitLaws.{above_zero, range_of, ranges_pair, fit_sparse, fit_dense, fit_short}
@@ -97,20 +97,6 @@ module _ (n : ℕ) (st : State) where
       pick : (b : Bool) → eqb n 0 ≡ b → cond b (got st []) (refused n) ≡ refused k → 0 < k
       pick true f e = absurd (let z : ◌≡◌ {A = ℕ} 0 1 = cc in omega arith)
       pick false f e = let z : n ≡ k = cc in let h = pos_of_ne-zero (eqb-false n 0 f) in omega arith
-
--- ---- value types
-
-pub mask_0 : (t : ℕ) → t ≡ 0 → 15 ≡ mask_of t
-mask_0 t e = rw e
-
-pub mask_7 : (t : ℕ) → t ≡ 7 → 2 ≡ mask_of t
-mask_7 t e = rw e
-
-pub mask_8 : (t : ℕ) → t ≡ 8 → 1 ≡ mask_of t
-mask_8 t e = rw e
-
-pub mask_other : (t : ℕ) → (t ≡ 0 → ⊥) → (t ≡ 7 → ⊥) → (t ≡ 8 → ⊥) → 12 ≡ mask_of t
-mask_other t a b c = rw (ne_eqb t 0 a, ne_eqb t 7 b, ne_eqb t 8 c)
 
 -- ---- 10 to 13
 

@@ -1,5 +1,5 @@
 -- The paths of a list roll-up: what the calls of each function leave is what the definitions have.
-use Rattle.std.proofs.Common.{◌≡◌, ℕ, ◌+◌, ◌-◌, ◌^◌, ◌<◌, ◌≤◌, Bool, true, cond, ◌⊎◌, List, [], ◌++◌, length, take, sym, refl, ap, ◌∙◌, zero-add, subst, ap₂, ⊎_elim, pos_of_ne-zero, arith, length-append, length-take, length-take-le, take_at, le-ltb, lt-ltb, eq-eqb, ne_eqb, Option, Some, None}
+use Rattle.std.proofs.Common.{◌≡◌, ℕ, ◌+◌, ◌-◌, ◌^◌, ◌<◌, ◌≤◌, Bool, true, cond, ◌⊎◌, List, [], ◌++◌, length, take, sym, refl, ap, ◌∙◌, subst, ap₂, ⊎_elim, pos_of_ne-zero, arith, length-append, length-take, length-take-le, take_at, le-ltb, lt-ltb, eq-eqb, ne_eqb, Option, Some, None}
 use mathlib.Core.List.Permᴰ
 use mathlib.Core.List.{Permᴰ}
 use native.Mathlib.Nat.{min-le_left}
@@ -37,8 +37,6 @@ module _ {p s : ℕ} {enc : Encoding} (n : NewPost p s enc) (P : ℕ → ℕ →
 
   pub of_pair : P p s → P enc.normal_precision enc.sparse_precision
   of_pair x = subst (λ (q : ℕ). P q enc.sparse_precision) (sym n.normal) (subst (λ (t : ℕ). P p t) (sym n.sparse) x)
-
--- ---- heads
 
 -- ---- registers
 
@@ -143,12 +141,6 @@ module _ (p s : ℕ) where
   merge_post a b c r after e m =
       record { count = m.count ∙ ap length e; bytes = m.bytes ∙ ap written e; values = m.values ∙ e }
 
-  -- The merge was copied from one place to another.
-  pub merge_copied : (a b : List ℕ) (r : Merged) (from before to : List ℕ) → take (0 + r.len) to ≡ take 0 before ++ take r.len from
-      → MergePost p s a b r from → MergePost p s a b r to
-  merge_copied a b r from before to f m =
-      record { count = m.count; bytes = m.bytes; values = ap (λ (k : ℕ). take k to) (sym (zero-add r.len)) ∙ f ∙ m.values }
-
 -- Values that were put in order, in place, and the merge of them and of those kept.
 module _ (vs ordered tail : List ℕ) (n : ℕ) (long : length vs ≡ n) (e : ordered ≡ sort_of vs) where
   pub sorted_front : take n (ordered ++ tail) ≡ sort_of vs
@@ -204,9 +196,6 @@ module _ {enc : Encoding} {sparse : List ℕ} {n : ℕ} {pending : List ℕ} {w 
         ∙ length-append (take w pending) (take k scratch)
         ∙ ap₂ (λ (x y : ℕ). x + y) (length-take-le w pending (let h : w ≤ length pending = omega (arith, pre.in_pending) in h))
         (length-take-le k scratch (let h : k ≤ length scratch = omega (arith, pre.in_scratch) in h))
-
-    pub joined_order : w ≡ 0 → ascends (take (w + k) first) ≡ true
-    joined_order z = ap ascends (f ∙ ap (λ (x : ℕ). take x pending ++ take k scratch) z) ∙ pre.incoming_order
 
     -- They were put in order, in place.
     module _ {ordered : List ℕ} (tail : List ℕ) (g : ordered ≡ sort_of (take (w + k) first)) where

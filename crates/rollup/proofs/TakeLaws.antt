@@ -1,9 +1,7 @@
 -- Taking in: an accepted state can be taken in, and what each form requires of what comes in.
-use Rattle.std.proofs.Common.{◌≡◌, ℕ, ◌<◌, ◌≤◌, true, List, [], length, take, refl, subst, Option, length-take-le, ⊎_elim, le_of_eq, arith}
+use Rattle.std.proofs.Common.{◌≡◌, ℕ, ◌<◌, ◌≤◌, true, List, [], length, take, refl, Option, length-take-le, le_of_eq, arith}
 use Rattle.wire.specs.Reading.{got}
 use Rattle.wire.specs.State.{State}
-use Rattle.wire.proofs.VarintLaws.{side}
-use Rattle.lists.specs.Registers.{register_bytes}
 use Rattle.lists.proofs.DecodingLaws.{accepted}
 use Rattle.rollup.specs.declared.accumulator.Form.{Form}
 use Rattle.rollup.specs.declared.accumulator.Form.TheVariants.{Unstarted, Sparse, Dense}
@@ -12,8 +10,8 @@ use Rattle.rollup.specs.declared.incoming.Incoming.{Incoming}
 use Rattle.rollup.specs.Accumulator.{Mem, fits}
 use Rattle.rollup.specs.Header.{data_of, list_of}
 use Rattle.rollup.specs.declared.paths.Path.{Path}
-use Rattle.rollup.specs.Adding.{state_numbers, judge_answer, wanted_precision, has_room, listed_in}
-use Rattle.rollup.specs.Stages.{StartPre, DensePre, TakePre, TakingPre}
+use Rattle.rollup.specs.Adding.{state_numbers, judge_answer, has_room, listed_in}
+use Rattle.rollup.specs.Stages.{DensePre, TakePre, TakingPre}
 use Rattle.rollup.proofs.FitLaws.{fit_none, fit_sparse, fit_dense}
 use Rattle.rollup.proofs.JudgeLaws.{judged_facts, room_facts}
 
@@ -80,19 +78,6 @@ module _ {a : Accumulator} {m : Mem} {scratch : List ℕ} {x : Incoming} {path :
 
   values : length vs ≡ k
   values = length-take-le k scratch pre.inside
-
-  pub start_pre : a.form ≡ Unstarted → StartPre m.registers m.sparse scratch x row k
-  start_pre f =
-      let t = pre.taken in
-      record {
-        high = t.high;
-        size = t.size;
-        in_registers = subst (λ (g : Form). register_bytes (wanted_precision g a x.precision) ≤ length m.registers) f t.in_registers;
-        inside = pre.inside;
-        in_sparse =
-            ⊎_elim (λ (h : 0 < length vs). omega (arith, (t.in_lists h).in_sparse, values)) (λ (h : length vs ≤ 0). omega (arith, values))
-            (side 0 (length vs));
-      }
 
   pub dense_pre : a.form ≡ Dense → DensePre a m.registers scratch x row k
   dense_pre f =

@@ -4,7 +4,7 @@ use Rattle.std.proofs.Common.{◌≡◌, ℕ, ◌+◌, ◌-◌, ◌^◌, ◌<◌
 use mathlib.Core.List.Permᴰ
 use mathlib.Core.List.{Permᴰ}
 use mathlib.Core.Option.{none, some}
-use lib.Seq.{sets-eq, length-sets}
+use lib.Seq.{sets-eq}
 use borrow.Rule.Slice.PartMut.{mid_of, post_of, put_mid}
 use borrow.Author.Tests.{lt-leb}
 use Rattle.wire.specs.Varints.{PutPost}
@@ -12,7 +12,7 @@ use Rattle.wire.specs.declared.state.Fields.{Fields}
 use Rattle.wire.specs.declared.view.StateView.{StateView}
 use Rattle.wire.specs.declared.encoding.EncodeError.{EncodeError}
 use Rattle.wire.specs.declared.encoding.EncodeError.TheVariants.{OutputTooShort}
-use Rattle.wire.specs.State.{State, state_of, bytes_or_none}
+use Rattle.wire.specs.State.{State, state_of}
 use Rattle.rollup.specs.Header.{viewed}
 use Rattle.wire.specs.Encoding.{encoded_number, encoded_length, head_of, hll_head, encode_of, Output, encode_step, EncodePost}
 use Rattle.wire.proofs.VarintLaws.{side}
@@ -22,7 +22,7 @@ use Rattle.lists.specs.declared.merging.Merged.{Merged}
 use Rattle.lists.specs.Pairs.{NewPost}
 use Rattle.lists.specs.Sorting.{ascends, sort_of}
 use Rattle.lists.specs.Lists.{all_valid, written, encode_list, merged, distinct_slots, distinct_indices, IndexPre, MergePost}
-use Rattle.lists.specs.Merging.{EncodePre, MergePre}
+use Rattle.lists.specs.Merging.{MergePre}
 use Rattle.lists.specs.Registers.{register_bytes, registers_of}
 use Rattle.lists.proofs.OrderLaws.{perm_sort}
 use Rattle.lists.proofs.MergeLaws.{merged_ascends, merged_distinct, merged_valid, length_merged, length_encode}
@@ -107,11 +107,6 @@ module _ (a : Accumulator) (size : ℕ) (l : List ℕ) (bytes : ℕ) (pre : Valu
       list_len : v.fields.hll.sparse_data.len ≡ bytes
       list_len = ap (λ (x : Fields). x.hll.sparse_data.len) e
 
-      pub head_pre : length (bytes_or_none (viewed v).hll.«data») + v.fields.hll.sparse_data.len < 2 ^ 63
-      head_pre =
-          subst (λ (st : State). length (bytes_or_none st.hll.«data») + v.fields.hll.sparse_data.len < 2 ^ 63) (sym view_is)
-          (let g : 0 + v.fields.hll.sparse_data.len < 2 ^ 63 = omega (arith, values_small, list_len) in g)
-
       abbrev head : List ℕ
       head = head_of (viewed v) v.fields.hll.sparse_data.len
 
@@ -147,24 +142,13 @@ module _ (a : Accumulator) (size : ℕ) (l : List ℕ) (bytes : ℕ) (pre : Valu
           writes_no (list_outcome a size l (length out)) 23 out
           (to_encode (length out) ∙ encode_no list_state (length out) (let k : length out < length (encode_of list_state) = omega (arith, whole_length) in k))
 
-      pub values_room : (out : List ℕ) (n : ℕ) → n ≡ length head → n + bytes ≤ length out → length head + v.fields.hll.sparse_data.len ≤ length out
-      values_room out n g h = omega (arith, list_len)
-
       module _ (out : List ℕ) (n : ℕ) (g : n ≡ length head) (h : n + bytes ≤ length out) (at : ℕ) (mid : List ℕ) (p : PutPost out 0 head at mid) where
-        mid_length : length mid ≡ length out
-        mid_length = ap length p.output ∙ length-sets out 0 head
-
         -- What is lent on is all that is left.
         tail_is : mid_of at (length mid - at) mid ≡ drop at mid
         tail_is = take_all (length mid - at) (drop at mid) (let k : length (drop at mid) ≤ length mid - at = omega (arith, length-drop at mid) in k)
 
         tail_end : post_of at (length mid - at) mid ≡ []
         tail_end = drop_of_length-le (drop at mid) (let k : length (drop at mid) ≤ length mid - at = omega (arith, length-drop at mid) in k)
-
-        pub tail_pre : EncodePre l (mid_of at (length mid - at) mid)
-        tail_pre =
-            subst (EncodePre l) (sym tail_is)
-            (record { order = pre.order; room = omega (arith, p.next, mid_length, pre.count, length-drop at mid) })
 
         pub values_written : (r : ℕ) (y : List ℕ) → PutPost (mid_of at (length mid - at) mid) 0 (encode_list l) r y
             → Writes (list_outcome a size l (length out)) out 0 (n + bytes) (put_mid at (length mid - at) mid y)
@@ -385,9 +369,6 @@ module _ (a : Accumulator) (sparse pending : List ℕ) (form : a.form ≡ Sparse
                 kept_length,
                 length-take-le a.pending_len pending list_fit.waiting_in,
               )
-
-          pub union_in : length scratch ≡ room → u.len ≤ length scratch
-          union_in e = omega (arith, union_count)
 
           pub index_pre : IndexPre enc (take u.len scratch)
           index_pre =

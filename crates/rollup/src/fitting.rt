@@ -117,6 +117,7 @@ impl Accumulator {
             Form::Dense => self.dense_fits(registers),
         }
     }
+
     // The same of a whole `Memory`.
     pub fn fits_in(self, memory: &Memory) -> bool
         ensures { result ≡ headFits self (mem_of memory.now) }

@@ -1,7 +1,8 @@
 // The memory that a roll-up is lent. New: the Rust's accumulator has `Vec`s of its own, and here there is no heap.
 ghost use Rattle.std.specs.Prelude.{◌≡◌, ◌+◌, ◌≤◌, ◌++◌, length, take};
 
-// Its slices may have any lengths: what a call needs more than is there it refuses (17).
+// Its slices may have any lengths: what a call needs more than is there it refuses (17). Where a part of one is lent beside another, both are taken out of it first, as
+// in `let (a, b) = (&mut *memory.sparse, &mut *memory.scratch);`: the borrow checker does not cover `f(memory.sparse, &memory.scratch[..k])`.
 #[derive(Drop)]
 pub struct Memory<'a> {
     // The registers, a byte each.

@@ -69,7 +69,7 @@ fn merge_back(
 }
 
 // The first n values of `sparse`, merged with those that wait and those that come in. These go after those that wait first: `scratch` is the
-// spare of the sort, and takes the merge.
+// spare of the sort, and takes the merge. It is lent slices and no `Memory`, so that parts of two can be lent at once.
 fn merge_all(
     enc: Sparse,
     sparse: &mut [u32],

@@ -20,9 +20,6 @@ returns-in-Unstarted c =
     refused_by c.args.self c.args.registers.now c.args.sparse.now c.args.pending.now room c.args.out.now 21
     (write_fresh c.args.self m room (length c.args.out.now) c.requires c.in-Unstarted.is)
 
-pub returns-in-Sparse : goal.returns-in-Sparse
-returns-in-Sparse c = c.write_list.ensures c.args.registers.now
-
 pub returns-in-Dense : goal.returns-in-Dense
 returns-in-Dense c =
     let room : ℕ = length c.args.scratch.now in

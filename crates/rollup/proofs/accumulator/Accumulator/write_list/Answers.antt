@@ -1,6 +1,6 @@
 -- 17 (`list_17`); nothing waits, and kept is written (`kept_post`); or the merge is (`flushed_post`).
 use Rattle.std.proofs.Common.{length, sym, refl, arith, length-take-le}
-use Rattle.rollup.proofs.WriteLaws.{list_fit, list_short, list_17, kept_pre, kept_post, flush_pre, union_in, index_pre, size_small, flushed_pre, flushed_post}
+use Rattle.rollup.proofs.WriteLaws.{list_fit, list_short, list_17, kept_pre, kept_post, flush_pre, index_pre, size_small, flushed_pre, flushed_post}
 use Rattle.rollup.proofs.accumulator.Accumulator.write_list.Goals as goal
 
 pub overflow_add-self : goal.overflow_add-self
@@ -26,12 +26,6 @@ encoding-enc-requires c = (list_fit c.args.self c.args.sparse.now c.args.pending
 
 pub flush_pending-u-requires : goal.flush_pending-u-requires
 flush_pending-u-requires c = flush_pre c.args.self c.args.sparse.now c.args.pending.now c.requires.0 c.requires.1 (length c.args.scratch.now) c.args.out.now c.if-scratch-self.false c.encoding-enc.result c.encoding-enc.ensures c.args.scratch.now refl
-
-pub slice_bounds-list-end : goal.slice_bounds-list-end
-slice_bounds-list-end c = union_in c.args.self c.args.sparse.now c.args.pending.now c.requires.0 c.requires.1 (length c.args.scratch.now) c.args.out.now c.if-scratch-self.false c.encoding-enc.result c.encoding-enc.ensures c.flush_pending-u.result c.flush_pending-u.new.pending c.flush_pending-u.new.scratch c.flush_pending-u.ensures c.flush_pending-u.auto.scratch
-
-pub slice_bounds-list-end-2 : goal.slice_bounds-list-end-2
-slice_bounds-list-end-2 c = sym (length-take-le c.flush_pending-u.result.len c.flush_pending-u.new.scratch (union_in c.args.self c.args.sparse.now c.args.pending.now c.requires.0 c.requires.1 (length c.args.scratch.now) c.args.out.now c.if-scratch-self.false c.encoding-enc.result c.encoding-enc.ensures c.flush_pending-u.result c.flush_pending-u.new.pending c.flush_pending-u.new.scratch c.flush_pending-u.ensures c.flush_pending-u.auto.scratch))
 
 pub distinct_indices-requires : goal.distinct_indices-requires
 distinct_indices-requires c = index_pre c.args.self c.args.sparse.now c.args.pending.now c.requires.0 c.requires.1 (length c.args.scratch.now) c.args.out.now c.if-scratch-self.false c.encoding-enc.result c.encoding-enc.ensures c.flush_pending-u.result c.flush_pending-u.new.pending c.flush_pending-u.new.scratch c.flush_pending-u.ensures

@@ -1,16 +1,12 @@
 -- 22 where the list is at the limit (`values_22`), 23 where head and list do not fit (`values_23`); else the head, and the list in the rest of the
 -- output (`values_written`).
 use Rattle.std.proofs.Common.{ℕ, List, ap, Bor, arith}
-use Rattle.rollup.proofs.WriteLaws.{values_22, values_small, head_pre, head_small, values_23, values_room, tail_pre, values_written}
+use Rattle.rollup.proofs.WriteLaws.{values_22, values_small, head_small, values_23, values_written}
 use Rattle.rollup.proofs.accumulator.Accumulator.write_values.Goals as goal
 
 pub returns-then-size_limit-bytes : goal.returns-then-size_limit-bytes
 returns-then-size_limit-bytes c = let a = c.args in
     values_22 a.self a.size a.list.now a.bytes c.requires c.size_limit.result c.size_limit.ensures.0 a.out.now c.if-size_limit-bytes.true
-
-pub head_len-requires : goal.head_len-requires
-head_len-requires c = let a = c.args in
-    head_pre a.self a.size a.list.now a.bytes c.requires c.size_limit.result c.size_limit.ensures.0 c.if-size_limit-bytes.false c.view-view.result (ap (λ (b : Bor (List ℕ)). b.now) c.view-view.ensures.same) c.view-view.ensures.fields
 
 pub overflow_add-total : goal.overflow_add-total
 overflow_add-total c = let a = c.args in
@@ -19,14 +15,6 @@ overflow_add-total c = let a = c.args in
 pub returns-then-out-total : goal.returns-then-out-total
 returns-then-out-total c = let a = c.args in
     values_23 a.self a.size a.list.now a.bytes c.requires c.size_limit.result c.size_limit.ensures.0 c.if-size_limit-bytes.false c.view-view.result (ap (λ (b : Bor (List ℕ)). b.now) c.view-view.ensures.same) c.view-view.ensures.fields a.out.now c.head_len.result c.head_len.ensures c.if-out-total.true
-
-pub encode_head-at-requires : goal.encode_head-at-requires
-encode_head-at-requires c = let a = c.args in
-    values_room a.self a.size a.list.now a.bytes c.requires c.size_limit.result c.size_limit.ensures.0 c.if-size_limit-bytes.false c.view-view.result (ap (λ (b : Bor (List ℕ)). b.now) c.view-view.ensures.same) c.view-view.ensures.fields a.out.now c.head_len.result c.head_len.ensures c.if-out-total.false
-
-pub encode_sparse-requires : goal.encode_sparse-requires
-encode_sparse-requires c = let a = c.args in
-    tail_pre a.self a.size a.list.now a.bytes c.requires c.size_limit.result c.size_limit.ensures.0 c.if-size_limit-bytes.false c.view-view.result (ap (λ (b : Bor (List ℕ)). b.now) c.view-view.ensures.same) c.view-view.ensures.fields a.out.now c.head_len.result c.head_len.ensures c.if-out-total.false c.encode_head-at.result c.encode_head-at.new.out c.encode_head-at.ensures
 
 pub returns : goal.returns
 returns c = let a = c.args in
