@@ -37,6 +37,12 @@ pub struct Fields {
     pub hll: HllFields,
 }
 
+// What an absent field says; the other numbers are 0.
+pub(crate) const ABSENT_TYPE: u32 = 112;
+
+pub(crate) const ABSENT_VERSION: u32 = 1;
+
+// The tags of the outer fields, in which the type of a number is VARINT.
 pub(crate) const TYPE_TAG: u32 = 8;
 
 pub(crate) const NUM_VALUES_TAG: u32 = 16;
@@ -47,6 +53,7 @@ pub(crate) const VALUE_TYPE_TAG: u32 = 32;
 
 pub(crate) const HLL_STATE_TAG: u32 = 898;
 
+// The tags of the nested message's fields.
 pub(crate) const SPARSE_SIZE_TAG: u32 = 16;
 
 pub(crate) const PRECISION_TAG: u32 = 24;
@@ -72,9 +79,9 @@ pub(crate) fn empty() -> Fields
         sparse_data: absent,
     };
     Fields {
-        aggregator_type: 112,
+        aggregator_type: ABSENT_TYPE,
         num_values: 0,
-        encoding_version: 1,
+        encoding_version: ABSENT_VERSION,
         value_type: 0,
         hll,
     }
