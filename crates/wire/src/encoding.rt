@@ -1,7 +1,7 @@
 // Writing a state. Ported from `StateView::encode` in src/proto.rs of zetasketch-rs at commit 9abe68bf87 (Apache-2.0, see NOTICE).
 // Changed: the output is lent, and the lengths are taken first, so that nothing is written where it is too short. (A length and what
 // puts it are two functions: one over a sink that counts or writes wants a trait, its ghost members, the laws that join two parts and two
-// impls, which is more than the seven functions that it spares.)
+// impls, which is more than the six functions that it spares.)
 ghost use Rattle.std.specs.Prelude.{◌≡◌, [], ◌+◌, ◌≤◌, ◌<◌, ◌^◌, ◌/◌, ◌%◌, length};
 ghost use Rattle.wire.specs.Varints.{PutPost};
 ghost use Rattle.wire.specs.State.{lent_field, hll_of, state_of, bytes_or_none};
@@ -9,9 +9,8 @@ ghost use Rattle.wire.specs.Fields.{VARINT, LEN};
 ghost use Rattle.wire.specs.Encoding.{pair, sign_extended, int32_unless, bytes_field, hll_numbers, hll_bytes, outer_numbers, encode_of, hll_head, hll_start, start_of, head_of, EncodePost};
 
 use crate::state::{
-    ABSENT_VERSION, DATA_TAG, ENCODING_VERSION_TAG, Fields, HLL_STATE_TAG, HllFields,
-    NUM_VALUES_TAG, PRECISION_TAG, SPARSE_DATA_TAG, SPARSE_PRECISION_TAG, SPARSE_SIZE_TAG,
-    TYPE_TAG, VALUE_TYPE_TAG,
+    DATA_TAG, Fields, HLL_STATE_TAG, HllFields, NO_VERSION, NUM_VALUES_TAG, PRECISION_TAG,
+    SPARSE_DATA_TAG, SPARSE_PRECISION_TAG, SPARSE_SIZE_TAG, TYPE_TAG, VALUE_TYPE_TAG, VERSION_TAG,
 };
 use crate::varint::{put_varint, varint_len_64};
 use crate::view::StateView;
@@ -108,7 +107,7 @@ impl Fields {
     {
         pair_len(TYPE_TAG, sign_extended(self.aggregator_type))
             + pair_len(NUM_VALUES_TAG, self.num_values)
-            + int32_len(ABSENT_VERSION, ENCODING_VERSION_TAG, self.encoding_version)
+            + int32_len(NO_VERSION, VERSION_TAG, self.encoding_version)
             + int32_len(0, VALUE_TYPE_TAG, self.value_type)
     }
 
@@ -118,13 +117,7 @@ impl Fields {
     {
         let second = put_pair(out, at, TYPE_TAG, sign_extended(self.aggregator_type));
         let third = put_pair(out, second, NUM_VALUES_TAG, self.num_values);
-        let fourth = put_int32(
-            out,
-            third,
-            ABSENT_VERSION,
-            ENCODING_VERSION_TAG,
-            self.encoding_version,
-        );
+        let fourth = put_int32(out, third, NO_VERSION, VERSION_TAG, self.encoding_version);
         put_int32(out, fourth, 0, VALUE_TYPE_TAG, self.value_type)
     }
 }

@@ -1,6 +1,7 @@
 // Reading a state. Ported from `parse`, `parse_general` and `parse_hll` of `StateView` in src/proto.rs of zetasketch-rs at commit
 // 9abe68bf87 (Apache-2.0, see NOTICE). Changed: the fields are a struct by value with the positions of the two data fields, and a turn of
-// each loop is a function, and a cursor that jumps is no count for a `for`. `StateView` itself, the fields with the caller's bytes, is in view.rt.
+// each loop is a function. The loops are `while`: a turn moves the cursor by as many bytes as a field takes, and a `for` would count by one.
+// `StateView` itself, the fields with the caller's bytes, is in view.rt.
 ghost use Rattle.std.specs.Prelude.{◌≡◌, List, ℕ, ◌+◌, ◌<◌, ◌^◌, length};
 ghost use Rattle.wire.specs.Compact.{CompactPost};
 ghost use Rattle.wire.specs.State.{state_of, empty_state, HllInside, ParsePost, StepPost, HllStepPost, HllPost};
@@ -37,17 +38,17 @@ pub struct Fields {
     pub hll: HllFields,
 }
 
-// What an absent field says; the other numbers are 0.
-pub(crate) const ABSENT_TYPE: u32 = 112;
+// What is read of a state that has no field for it; the other numbers are then 0.
+pub(crate) const NO_TYPE: u32 = 112;
 
-pub(crate) const ABSENT_VERSION: u32 = 1;
+pub(crate) const NO_VERSION: u32 = 1;
 
 // The tags of the outer fields, in which the type of a number is VARINT.
 pub(crate) const TYPE_TAG: u32 = 8;
 
 pub(crate) const NUM_VALUES_TAG: u32 = 16;
 
-pub(crate) const ENCODING_VERSION_TAG: u32 = 24;
+pub(crate) const VERSION_TAG: u32 = 24;
 
 pub(crate) const VALUE_TYPE_TAG: u32 = 32;
 
@@ -79,9 +80,9 @@ pub(crate) fn empty() -> Fields
         sparse_data: absent,
     };
     Fields {
-        aggregator_type: ABSENT_TYPE,
+        aggregator_type: NO_TYPE,
         num_values: 0,
-        encoding_version: ABSENT_VERSION,
+        encoding_version: NO_VERSION,
         value_type: 0,
         hll,
     }
@@ -157,7 +158,7 @@ fn outer_field(s: &[u8], c: Cursor, mut f: Fields) -> Result<(Fields, Cursor), R
     match tag {
         TYPE_TAG => (f.aggregator_type, next) = read_varint32(s, value)?,
         NUM_VALUES_TAG => (f.num_values, next) = read_varint(s, value)?,
-        ENCODING_VERSION_TAG => (f.encoding_version, next) = read_varint32(s, value)?,
+        VERSION_TAG => (f.encoding_version, next) = read_varint32(s, value)?,
         VALUE_TYPE_TAG => (f.value_type, next) = read_varint32(s, value)?,
         HLL_STATE_TAG => {
             let (part, end) = length_delimited(s, value)?;
