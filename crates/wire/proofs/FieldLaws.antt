@@ -14,7 +14,7 @@ use Rattle.wire.specs.Reading.{Read, got, refused, and_then}
 use Rattle.wire.specs.Varints.{low_bits, varint64, varint_bytes}
 use Rattle.wire.specs.Fields.{tag, VARINT, LEN, tag_of, bytes_of, delimited_of, field_of, fields_of, message_of}
 use Rattle.wire.specs.State.{int32}
-use Rattle.wire.specs.Encoding.{pair, number_field, sign_extended, int32_unless, length_prefix, bytes_field}
+use Rattle.wire.specs.Encoding.{pair, number_field, sign_extended, int32_unless, bytes_field}
 use Rattle.wire.proofs.VarintLaws.{len_pos, there_and_back}
 use Rattle.wire.proofs.ReadingLaws.{then_same, is_tag_lem, bytes_got, fields_end, fields_step}
 

@@ -15,7 +15,7 @@ use Rattle.wire.specs.Reading.{Read, got}
 use Rattle.wire.specs.Varints.{varint_bytes}
 use Rattle.wire.specs.Fields.{tag, VARINT, LEN}
 use Rattle.wire.specs.State.{HllState, State, empty_hll, empty_state, hll_field, read_hll, outer_field, read_state, ParsePost}
-use Rattle.wire.specs.Encoding.{pair, number_field, sign_extended, length_prefix, bytes_field}
+use Rattle.wire.specs.Encoding.{pair, number_field, sign_extended, bytes_field}
 use Rattle.wire.proofs.VarintLaws.{bytes_last}
 use Rattle.wire.proofs.EncodingLaws.{signed_small}
 use Rattle.wire.proofs.FieldLaws.{Reads, reads_message, Leads, leads_reads, leads_int32}
