@@ -1,16 +1,16 @@
 -- Laws of writing a state: putting bytes after bytes, what the parts of a state are made of, and their lengths.
-use Prim.Native.Nat.{ℕ, suc, ◌+◌, ◌-◌, ◌^◌, ◌<◌, ◌≤◌}
+use Prim.Native.Nat.{ℕ, suc, ◌+◌, ◌-◌, ◌/◌, ◌%◌, ◌^◌, ◌<◌, ◌≤◌}
 use mathlib.Core.Path.{◌≡◌, refl, sym, ap, ap₂, ◌∙◌, subst}
 use mathlib.Core.List.{List, [], ◌∷◌, ◌++◌, append_assoc}
 use mathlib.Core.Option.{Option, none, some}
-use mathlib.Core.Bool.{Bool, true, false, not, cond}
+use mathlib.Core.Bool.{Bool, true, false, cond}
 use native.Mathlib.Nat.{add-zero, add-suc, suc-add, zero-add, min-le_right}
 use native.Mathlib.Omega.{arith}
 use lib.Dec.{eqb}
 use lib.ListN.{length, take, drop, set, length-append, length-take, length-drop}
 use lib.Seq.{sets, length-sets, sets-eq, drop-drop}
 use borrow.Rule.Slice.PartMut.{put_mid}
-use borrow.Author.Tests.{lt-ltb, le-leb, lt-leb, eq-eqb, ne_eqb, not-true, not-false}
+use borrow.Author.Tests.{lt-ltb, le-leb, lt-leb, eq-eqb, ne_eqb}
 use Rattle.wire.specs.declared.fields.Part.{Part}
 use Rattle.wire.specs.declared.state.HllFields.{HllFields}
 use Rattle.wire.specs.declared.state.Fields.{Fields}
@@ -19,7 +19,7 @@ use Rattle.wire.specs.declared.encoding.EncodeError.TheVariants.{OutputTooShort}
 use Rattle.wire.specs.Varints.{varint_bytes, PutPost}
 use Rattle.wire.specs.Fields.{tag, VARINT, LEN}
 use Rattle.wire.specs.State.{HllState, State, when_present, bytes_or_none, part_of, hll_of, state_of}
-use Rattle.wire.specs.Encoding.{number_field, sign_extended, int32_unless, length_prefix, bytes_field, hll_numbers, hll_bytes, outer_numbers, encode_of, hll_start, start_of, hll_head, head_of, Output, encode_step, EncodePost}
+use Rattle.wire.specs.Encoding.{pair, number_field, sign_extended, int32_unless, length_prefix, bytes_field, hll_numbers, hll_bytes, outer_numbers, encode_of, hll_start, start_of, hll_head, head_of, Output, encode_step, EncodePost}
 use Rattle.wire.proofs.VarintLaws.{len_le}
 
 -- ---- bytes put after bytes
@@ -110,41 +110,32 @@ put_part out d at h e =
 pub signed_small : (v : ℕ) → v < 2 ^ 31 → v ≡ sign_extended v
 signed_small v h = rw (lt-ltb _ _ h)
 
--- The code's field number, f, is the one that is meant.
-pub number_is : {f field : ℕ} → f ≡ field → (v : ℕ) → Two (number_field field v) (varint_bytes 10 (tag f VARINT)) (varint_bytes 10 v)
-unfolding number_field
-number_is e v = record { is = ap (λ (x : ℕ). varint_bytes 10 (tag x VARINT) ++ varint_bytes 10 v) (sym e) }
+-- The number that is written for the tag, x, is the tag.
+pub pair_is : {x t : ℕ} → x ≡ t → (v : ℕ) → Two (pair t v) (varint_bytes 10 x) (varint_bytes 10 v)
+unfolding pair
+pair_is e v = record { is = ap (λ (y : ℕ). varint_bytes 10 y ++ varint_bytes 10 v) (sym e) }
 
-pub prefix_is : {f field : ℕ} → f ≡ field → (n : ℕ) → Two (length_prefix field n) (varint_bytes 10 (tag f LEN)) (varint_bytes 10 n)
-unfolding length_prefix
-prefix_is e n = record { is = ap (λ (x : ℕ). varint_bytes 10 (tag x LEN) ++ varint_bytes 10 n) (sym e) }
+-- A tag is made of its field number and its wire type.
+same_tag : (t wire : ℕ) → t % 8 ≡ wire → tag (t / 8) wire ≡ t
+same_tag t wire e = omega (arith, e)
 
-module _ (omitted field v : ℕ) where
-  pub int32_none : v ≡ omitted → int32_unless omitted field v ≡ []
-  unfolding int32_unless
-  int32_none e = ap (λ (b : Bool). cond b [] (number_field field (sign_extended v))) (eq-eqb v omitted e)
+pub int32_none : (omitted field v : ℕ) → v ≡ omitted → int32_unless omitted field v ≡ []
+unfolding int32_unless
+int32_none omitted field v e = ap (λ (b : Bool). cond b [] (number_field field (sign_extended v))) (eq-eqb v omitted e)
 
-  pub int32_is : (v ≡ omitted → ⊥) → int32_unless omitted field v ≡ number_field field (sign_extended v)
-  unfolding int32_unless
-  int32_is e = ap (λ (b : Bool). cond b [] (number_field field (sign_extended v))) (ne_eqb v omitted e)
+-- The value that is written, x, is the sign-extended one.
+pub int32_is : (omitted t v : ℕ) {x : ℕ} → t % 8 ≡ VARINT → (v ≡ omitted → ⊥) → x ≡ sign_extended v → int32_unless omitted (t / 8) v ≡ pair t x
+unfolding int32_unless
+int32_is omitted t v w e s =
+    ap (λ (b : Bool). cond b [] (number_field (t / 8) (sign_extended v))) (ne_eqb v omitted e) ∙ ap₂ pair (same_tag t VARINT w) (sym s)
 
-module _ (field : ℕ) (present : Bool) (d : List ℕ) where
-  pub field_absent : not present ≡ true → bytes_field field (when_present present d) ≡ []
-  unfolding bytes_field
-  field_absent e = ap (λ (b : Bool). bytes_field field (when_present b d)) (not-true present e)
+pub field_none : (field : ℕ) {o : Option (List ℕ)} → o ≡ none → bytes_field field o ≡ []
+unfolding bytes_field
+field_none field e = ap (bytes_field field) e
 
-  pub field_present : not present ≡ false → Two (bytes_field field (when_present present d)) (length_prefix field (length d)) d
-  unfolding bytes_field
-  field_present e = record { is = ap (λ (b : Bool). bytes_field field (when_present b d)) (not-false present e) }
-
-  -- The bytes that `data` and `sparse_data` hand out are those of the field where it is present.
-  pub field_bytes : (r : List ℕ) → r ≡ bytes_or_none (when_present present d)
-      → bytes_field field (when_present present r) ≡ bytes_field field (when_present present d)
-  field_bytes r e = ap (λ (l : List ℕ). bytes_field field (when_present present l)) e ∙ ap (λ (o : Option (List ℕ)). bytes_field field o) (kept present)
-    where
-      kept : (b : Bool) → when_present b (bytes_or_none (when_present b d)) ≡ when_present b d
-      kept true = refl
-      kept false = refl
+pub field_is : (t : ℕ) {o : Option (List ℕ)} {d : List ℕ} → t % 8 ≡ LEN → o ≡ some d → Two (bytes_field (t / 8) o) (pair t (length d)) d
+unfolding bytes_field
+field_is t {d = d} w e = record { is = ap (bytes_field (t / 8)) e ∙ ap (λ (x : ℕ). pair x (length d) ++ d) (same_tag t LEN w) }
 
 pub hll_numbers_are : (h : HllState)
     → Three (hll_numbers h) (int32_unless 0 2 h.sparse_size) (int32_unless 0 3 h.precision) (int32_unless 0 4 h.sparse_precision)
@@ -173,15 +164,12 @@ start_is st n = four _ _ _ _ refl
 
 -- ---- lengths
 
--- A tag and a number behind it have at most 10 bytes each.
-varints_le : {bytes : List ℕ} (t v : ℕ) → Two bytes (varint_bytes 10 t) (varint_bytes 10 v) → length bytes ≤ 20
-varints_le t v two = omega (arith, two_length two, len_le 10 t, len_le 10 v)
-
-pub number_le : (field v : ℕ) → length (number_field field v) ≤ 20
-number_le field v = varints_le (tag field VARINT) v (number_is refl v)
+-- A tag and the number behind it have at most 10 bytes each.
+pub pair_le : (t v : ℕ) → length (pair t v) ≤ 20
+pair_le t v = omega (arith, two_length (pair_is {x = t} refl v), len_le 10 t, len_le 10 v)
 
 pub prefix_le : (field n : ℕ) → length (length_prefix field n) ≤ 20
-prefix_le field n = varints_le (tag field LEN) n (prefix_is refl n)
+prefix_le field n = pair_le (tag field LEN) n
 
 pub int32_le : (omitted field v : ℕ) → length (int32_unless omitted field v) ≤ 20
 unfolding int32_unless
@@ -189,7 +177,7 @@ int32_le omitted field v = go (eqb v omitted)
   where
     go : (b : Bool) → length (cond b [] (number_field field (sign_extended v))) ≤ 20
     go true = omega arith
-    go false = number_le field (sign_extended v)
+    go false = pair_le (tag field VARINT) (sign_extended v)
 
 pub hll_numbers_length : (h : HllState)
     → length (hll_numbers h)
@@ -210,8 +198,8 @@ outer_numbers_le st =
     omega (
       arith,
       outer_numbers_length st,
-      number_le 1 (sign_extended st.aggregator_type),
-      number_le 2 st.num_values,
+      pair_le (tag 1 VARINT) (sign_extended st.aggregator_type),
+      pair_le (tag 2 VARINT) st.num_values,
       int32_le 1 3 st.encoding_version,
       int32_le 0 4 st.value_type,
     )

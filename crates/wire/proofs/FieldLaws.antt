@@ -14,7 +14,7 @@ use Rattle.wire.specs.Reading.{Read, got, refused, and_then}
 use Rattle.wire.specs.Varints.{low_bits, varint64, varint_bytes}
 use Rattle.wire.specs.Fields.{tag, VARINT, LEN, tag_of, bytes_of, delimited_of, field_of, fields_of, message_of}
 use Rattle.wire.specs.State.{int32}
-use Rattle.wire.specs.Encoding.{number_field, sign_extended, int32_unless, length_prefix, bytes_field}
+use Rattle.wire.specs.Encoding.{pair, number_field, sign_extended, int32_unless, bytes_field}
 use Rattle.wire.proofs.VarintLaws.{len_pos, there_and_back}
 use Rattle.wire.proofs.ReadingLaws.{then_same, is_tag_lem, bytes_got, fields_end, fields_step}
 
@@ -115,14 +115,14 @@ extended_back v h = go (ltb v (2 ^ 31))
     go false = omega arith
 
 pub bytes_written : (f : ℕ) (d : List ℕ) → varint_bytes 10 (tag f LEN) ++ (varint_bytes 10 (length d) ++ d) ≡ bytes_field f (some d)
-unfolding bytes_field length_prefix
+unfolding bytes_field pair
 bytes_written f d = sym (append_assoc (varint_bytes 10 (tag f LEN)) (varint_bytes 10 (length d)) d)
 
 module _ {A : Type 0} {field : ℕ → List ℕ → A → Read A} (f : ℕ) (low : 0 < f) (high : f < 2 ^ 28) {a : A} where
   -- Where `field` takes a number of the field f and goes on from `becomes` it.
   module _ (becomes : ℕ → A) (reads : (l : List ℕ) → field (tag f VARINT) l a ≡ and_then (varint64 l) (λ x rest. got (becomes x) rest)) (v : ℕ) where
     pub leads_number : v < 2 ^ 64 → Leads field a (becomes v) (number_field f v)
-    unfolding number_field
+    unfolding pair
     leads_number h =
         leads_field (tag f VARINT) (omega arith) (omega arith) (varint_bytes 10 v)
         (λ (l : List ℕ). reads (varint_bytes 10 v ++ l) ∙ then_same _ (varint64_back v l h))

@@ -12,7 +12,7 @@ use Rattle.wire.specs.Reading.{Read, got, and_then}
 use Rattle.wire.specs.Varints.{varint_bytes}
 use Rattle.wire.specs.Fields.{tag, VARINT, LEN, skip_of}
 use Rattle.wire.specs.State.{HllState, State, empty_hll, empty_state, hll_field, read_hll, outer_field, read_state}
-use Rattle.wire.specs.Encoding.{number_field, sign_extended, int32_unless, bytes_field, hll_numbers, hll_bytes, outer_numbers, encode_of, FitsWidths, SameFields}
+use Rattle.wire.specs.Encoding.{pair, number_field, sign_extended, int32_unless, bytes_field, hll_numbers, hll_bytes, outer_numbers, encode_of, FitsWidths, SameFields}
 use Rattle.wire.specs.Layout.{past_field, when_read, is_nested, at_end, nested_last_in, nested_last, CutReading, cut_refused, cut_before_hll}
 use Rattle.wire.proofs.BoolLaws.{whichever}
 use Rattle.wire.proofs.VarintLaws.{len_pos}
@@ -145,7 +145,7 @@ before_both : {v w : List ℕ} → Before v → Before w → Before (v ++ w)
 before_both {v} {w} f g = record { on = λ l h. subst NestedLast (sym (append_assoc v w l)) (f.on (w ++ l) (g.on l h)) }
 
 number_before : (f : ℕ) → 0 < f → f < 2 ^ 28 → {v : ℕ} → v < 2 ^ 64 → Before (number_field f v)
-unfolding number_field
+unfolding pair
 number_before f low high {v} h =
     let t = tag f VARINT in
     record {

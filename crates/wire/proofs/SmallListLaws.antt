@@ -15,7 +15,7 @@ use Rattle.wire.specs.Reading.{Read, got}
 use Rattle.wire.specs.Varints.{varint_bytes}
 use Rattle.wire.specs.Fields.{tag, VARINT, LEN}
 use Rattle.wire.specs.State.{HllState, State, empty_hll, empty_state, hll_field, read_hll, outer_field, read_state, ParsePost}
-use Rattle.wire.specs.Encoding.{number_field, sign_extended, length_prefix, bytes_field}
+use Rattle.wire.specs.Encoding.{pair, number_field, sign_extended, bytes_field}
 use Rattle.wire.proofs.VarintLaws.{bytes_last}
 use Rattle.wire.proofs.EncodingLaws.{signed_small}
 use Rattle.wire.proofs.FieldLaws.{Reads, reads_message, Leads, leads_reads, leads_int32}
@@ -106,11 +106,11 @@ two_at s at i h =
     ∙ ap (λ (k : ℕ). get_or s (at + (i + 1)) 0 ∷ drop k s) (let e : suc (at + (i + 1)) ≡ at + (i + 2) = omega arith in e))
 
 small_number : (f v : ℕ) → f < 16 → v < 128 → number_field f v ≡ tag f VARINT ∷ (v ∷ [])
-unfolding number_field
+unfolding pair
 small_number f v h k = ap₂ (λ (x y : List ℕ). x ++ y) (bytes_last 9 (tag f VARINT) (omega arith)) (bytes_last 9 v k)
 
 small_bytes : (f : ℕ) (d : List ℕ) → f < 15 → length d < 128 → bytes_field f (some d) ≡ tag f LEN ∷ (length d ∷ d)
-unfolding bytes_field length_prefix
+unfolding bytes_field pair
 small_bytes f d h k = ap₂ (λ (x y : List ℕ). (x ++ y) ++ d) (bytes_last 9 (tag f LEN) (omega arith)) (bytes_last 9 (length d) k)
 
 -- The tag of field 112 has two bytes.
@@ -119,7 +119,7 @@ unfolding varint_bytes
 tag_112 = refl
 
 nested_bytes : (m : List ℕ) → length m < 128 → bytes_field 112 (some m) ≡ 130 ∷ (7 ∷ (length m ∷ m))
-unfolding bytes_field length_prefix
+unfolding bytes_field pair
 nested_bytes m h = ap₂ (λ (x y : List ℕ). (x ++ y) ++ m) tag_112 (bytes_last 9 (length m) h)
 
 -- The number v of the field f stands at `at + i`.

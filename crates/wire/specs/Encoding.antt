@@ -8,9 +8,13 @@ use Rattle.wire.specs.Varints.{varint_bytes}
 use Rattle.wire.specs.Fields.{tag, VARINT, LEN}
 use Rattle.wire.specs.State.{HllState, State}
 
+-- A tag and the number behind it.
+unfoldable pub pair : ℕ → ℕ → List ℕ
+pair t v = varint_bytes 10 t ++ varint_bytes 10 v
+
 -- A field of wire type VARINT: its tag and its value.
-unfoldable pub number_field : ℕ → ℕ → List ℕ
-number_field field v = varint_bytes 10 (tag field VARINT) ++ varint_bytes 10 v
+abbrev pub number_field : ℕ → ℕ → List ℕ
+number_field field v = pair (tag field VARINT) v
 
 -- "A 32-bit field … is written sign-extended to 64" (module 1).
 abbrev pub sign_extended : ℕ → ℕ
@@ -21,8 +25,8 @@ unfoldable pub int32_unless : ℕ → ℕ → ℕ → List ℕ
 int32_unless omitted field v = cond (eqb v omitted) [] (number_field field (sign_extended v))
 
 -- A field of wire type LEN: its tag, its length and its bytes.
-unfoldable pub length_prefix : ℕ → ℕ → List ℕ
-length_prefix field n = varint_bytes 10 (tag field LEN) ++ varint_bytes 10 n
+abbrev pub length_prefix : ℕ → ℕ → List ℕ
+length_prefix field n = pair (tag field LEN) n
 
 unfoldable pub bytes_field : ℕ → Option (List ℕ) → List ℕ
 bytes_field field none = []

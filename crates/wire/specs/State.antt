@@ -1,5 +1,7 @@
 -- A state: the message AggregatorStateProto, with the nested message HyperLogLogPlusUniqueStateProto in its field 112 (document 01, module 2).
 use Rattle.std.specs.Prelude.{◌≡◌, List, [], Bool, true, false, cond, ◌||◌, ℕ, ◌+◌, ◌%◌, ◌^◌, ◌≤◌, eqb, length, take, drop, Result, IfOk}
+use Rattle.std.specs.Prelude as lent
+use Rattle.std.specs.Borrow.{Bor}
 use Rattle.std.proofs.Math.Option.{Option, none, some}
 use Rattle.wire.specs.declared.read_error.ReadError.{ReadError}
 use Rattle.wire.specs.declared.varint.Cursor.{Cursor}
@@ -175,6 +177,11 @@ pub record HllStepPost (m : List ℕ) (base at : ℕ) (h : HllFields) (r : Resul
 pub record HllPost (m : List ℕ) (base : ℕ) (h : HllFields) (r : Result HllFields ReadError) : Type 0 where
   pub answer : (s : List ℕ) → Within s base m → answer_of (λ (g : HllFields). got (hll_of s g) []) r ≡ read_hll m (hll_of s h)
   pub inside : (s : List ℕ) → Within s base m → HllInside s h → IfOk r (λ (g : HllFields). HllInside s g)
+
+-- A data field that is lent, as a state has it.
+abbrev pub lent_field : lent.Option (Bor (List ℕ)) → Option (List ℕ)
+lent_field (lent.Some d) = some d.now
+lent_field lent.None = none
 
 -- The bytes of a data field, none where it is absent: what `data` and `sparse_data` hand out.
 abbrev pub bytes_or_none : Option (List ℕ) → List ℕ

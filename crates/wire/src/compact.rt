@@ -7,8 +7,8 @@ ghost use Rattle.wire.specs.Compact.{SmallPost, CompactHllStepPost, CompactHllPo
 
 use crate::fields::take;
 use crate::state::{
-    DATA_TAG, ENCODING_VERSION_TAG, Fields, HllFields, NUM_VALUES_TAG, PRECISION_TAG,
-    SPARSE_DATA_TAG, SPARSE_PRECISION_TAG, SPARSE_SIZE_TAG, TYPE_TAG, VALUE_TYPE_TAG, empty,
+    DATA_TAG, Fields, HllFields, NUM_VALUES_TAG, PRECISION_TAG, SPARSE_DATA_TAG,
+    SPARSE_PRECISION_TAG, SPARSE_SIZE_TAG, TYPE_TAG, VALUE_TYPE_TAG, VERSION_TAG, empty,
 };
 use crate::varint::Cursor;
 
@@ -23,54 +23,36 @@ fn small(s: &[u8], c: Cursor) -> Option<(u32, Cursor)>
 }
 
 // One field of the nested message.
-fn compact_hll_field(m: &[u8], base: usize, c: Cursor, h: HllFields) -> Option<(HllFields, Cursor)>
+fn compact_hll_field(
+    m: &[u8],
+    base: usize,
+    c: Cursor,
+    mut h: HllFields,
+) -> Option<(HllFields, Cursor)>
     requires { base + length m.now < 2 ^ 64 }
     ensures { CompactHllStepPost m.now base c.at h result }
 {
     let (tag, value) = small(m, c)?;
-    let (v, next) = small(m, value)?;
+    let (v, mut next) = small(m, value)?;
     match tag {
-        SPARSE_SIZE_TAG => Some((
-            HllFields {
-                sparse_size: v,
-                ..h
-            },
-            next,
-        )),
-        PRECISION_TAG => Some((HllFields { precision: v, ..h }, next)),
-        SPARSE_PRECISION_TAG => Some((
-            HllFields {
-                sparse_precision: v,
-                ..h
-            },
-            next,
-        )),
+        SPARSE_SIZE_TAG => h.sparse_size = v,
+        PRECISION_TAG => h.precision = v,
+        SPARSE_PRECISION_TAG => h.sparse_precision = v,
         DATA_TAG => {
             let (part, end) = take(m, next, u64::from(v)).ok()?;
-            let data = part.moved(base);
-            Some((
-                HllFields {
-                    data_present: true,
-                    data,
-                    ..h
-                },
-                end,
-            ))
+            h.data = part.moved(base);
+            h.data_present = true;
+            next = end;
         }
         SPARSE_DATA_TAG => {
             let (part, end) = take(m, next, u64::from(v)).ok()?;
-            let sparse_data = part.moved(base);
-            Some((
-                HllFields {
-                    sparse_data_present: true,
-                    sparse_data,
-                    ..h
-                },
-                end,
-            ))
+            h.sparse_data = part.moved(base);
+            h.sparse_data_present = true;
+            next = end;
         }
-        _ => None,
+        _ => return None,
     }
+    Some((h, next))
 }
 
 // The nested message, which is a part of the state's bytes that starts at `base`.
@@ -91,6 +73,7 @@ fn compact_nested(s: &[u8], c: Cursor, f: Fields) -> Option<(Fields, Cursor)>
     requires { (c.at < length s.now) × (get_or s.now c.at 0 ≡ 130) }
     ensures { CompactStepPost s.now c.at f result }
 {
+    // The tag's second byte.
     if *s.get(c.at + 1)? != 7 {
         return None;
     }
@@ -101,7 +84,7 @@ fn compact_nested(s: &[u8], c: Cursor, f: Fields) -> Option<(Fields, Cursor)>
 }
 
 // One outer field.
-fn compact_field(s: &[u8], c: Cursor, f: Fields) -> Option<(Fields, Cursor)>
+fn compact_field(s: &[u8], c: Cursor, mut f: Fields) -> Option<(Fields, Cursor)>
     requires { c.at < length s.now }
     ensures { CompactStepPost s.now c.at f result }
 {
@@ -111,30 +94,13 @@ fn compact_field(s: &[u8], c: Cursor, f: Fields) -> Option<(Fields, Cursor)>
     let (tag, value) = small(s, c)?;
     let (v, next) = small(s, value)?;
     match tag {
-        TYPE_TAG => Some((
-            Fields {
-                aggregator_type: v,
-                ..f
-            },
-            next,
-        )),
-        NUM_VALUES_TAG => Some((
-            Fields {
-                num_values: u64::from(v),
-                ..f
-            },
-            next,
-        )),
-        ENCODING_VERSION_TAG => Some((
-            Fields {
-                encoding_version: v,
-                ..f
-            },
-            next,
-        )),
-        VALUE_TYPE_TAG => Some((Fields { value_type: v, ..f }, next)),
-        _ => None,
+        TYPE_TAG => f.aggregator_type = v,
+        NUM_VALUES_TAG => f.num_values = u64::from(v),
+        VERSION_TAG => f.encoding_version = v,
+        VALUE_TYPE_TAG => f.value_type = v,
+        _ => return None,
     }
+    Some((f, next))
 }
 
 // For `parse` alone, which answers for every state: how many this one leaves to the general reader is a matter of speed.

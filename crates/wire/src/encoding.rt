@@ -1,13 +1,17 @@
 // Writing a state. Ported from `StateView::encode` in src/proto.rs of zetasketch-rs at commit 9abe68bf87 (Apache-2.0, see NOTICE).
 // Changed: the output is lent, and the lengths are taken first, so that nothing is written where it is too short. (A length and what
 // puts it are two functions: one over a sink that counts or writes wants a trait, its ghost members, the laws that join two parts and two
-// impls, which is more than the seven functions that it spares.)
-ghost use Rattle.std.specs.Prelude.{◌≡◌, [], ◌+◌, ◌≤◌, ◌<◌, ◌^◌, length};
+// impls, which is more than the six functions that it spares.)
+ghost use Rattle.std.specs.Prelude.{◌≡◌, [], ◌+◌, ◌≤◌, ◌<◌, ◌^◌, ◌/◌, ◌%◌, length};
 ghost use Rattle.wire.specs.Varints.{PutPost};
-ghost use Rattle.wire.specs.State.{when_present, hll_of, state_of, bytes_or_none};
-ghost use Rattle.wire.specs.Encoding.{number_field, sign_extended, int32_unless, length_prefix, bytes_field, hll_numbers, hll_bytes, outer_numbers, encode_of, hll_head, hll_start, start_of, head_of, EncodePost};
+ghost use Rattle.wire.specs.State.{lent_field, hll_of, state_of, bytes_or_none};
+ghost use Rattle.wire.specs.Fields.{VARINT, LEN};
+ghost use Rattle.wire.specs.Encoding.{pair, sign_extended, int32_unless, bytes_field, hll_numbers, hll_bytes, outer_numbers, encode_of, hll_head, hll_start, start_of, head_of, EncodePost};
 
-use crate::state::{Fields, HllFields};
+use crate::state::{
+    DATA_TAG, Fields, HLL_STATE_TAG, HllFields, NO_VERSION, NUM_VALUES_TAG, PRECISION_TAG,
+    SPARSE_DATA_TAG, SPARSE_PRECISION_TAG, SPARSE_SIZE_TAG, TYPE_TAG, VALUE_TYPE_TAG, VERSION_TAG,
+};
 use crate::varint::{put_varint, varint_len_64};
 use crate::view::StateView;
 
@@ -18,11 +22,6 @@ pub enum EncodeError {
     OutputTooShort = 23,
 }
 
-// Wire types.
-const VARINT: u64 = 0;
-
-const LEN: u64 = 2;
-
 // A 32-bit number as the 64 bits that are written.
 fn sign_extended(v: u32) -> u64
     ensures { result ≡ sign_extended v }
@@ -32,62 +31,52 @@ fn sign_extended(v: u32) -> u64
 
 // ---- lengths
 
-fn number_len(field: u32, v: u64) -> usize
-    ensures { result ≡ length (number_field field v) }
+// A tag and the number behind it: the value of a field of wire type VARINT, or the length of one of wire type LEN.
+fn pair_len(tag: u32, v: u64) -> usize
+    ensures { result ≡ length (pair tag v) }
 {
-    varint_len_64(u64::from(field) * 8 + VARINT) + varint_len_64(v)
+    varint_len_64(u64::from(tag)) + varint_len_64(v)
 }
 
-fn int32_len(omitted: u32, field: u32, v: u32) -> usize
-    ensures { result ≡ length (int32_unless omitted field v) }
+fn int32_len(omitted: u32, tag: u32, v: u32) -> usize
+    requires { tag % 8 ≡ VARINT }
+    ensures { result ≡ length (int32_unless omitted (tag / 8) v) }
 {
     if v == omitted {
         return 0;
     }
-    number_len(field, sign_extended(v))
+    pair_len(tag, sign_extended(v))
 }
 
-fn prefix_len(field: u32, n: usize) -> usize
-    ensures { result ≡ length (length_prefix field n) }
+fn field_len(tag: u32, d: Option<&[u8]>) -> usize
+    requires { tag % 8 ≡ LEN }
+    ensures { result ≡ length (bytes_field (tag / 8) (lent_field d.entry)) }
 {
-    varint_len_64(u64::from(field) * 8 + LEN) + varint_len_64(n as u64)
-}
-
-fn field_len(field: u32, present: bool, d: &[u8]) -> usize
-    ensures { result ≡ length (bytes_field field (when_present present d.now)) }
-{
-    if !present {
+    let Some(d) = d else {
         return 0;
-    }
-    prefix_len(field, d.len()) + d.len()
+    };
+    pair_len(tag, d.len() as u64) + d.len()
 }
 
 // ---- writing: each puts its bytes at `at`, where there is room for them, and answers the position past them
 
-fn put_number(out: &mut [u8], at: usize, field: u32, v: u64) -> usize
-    requires { at + length (number_field field v) ≤ length out.old }
-    ensures { PutPost out.old at (number_field field v) result out.new }
+fn put_pair(out: &mut [u8], at: usize, tag: u32, v: u64) -> usize
+    requires { at + length (pair tag v) ≤ length out.old }
+    ensures { PutPost out.old at (pair tag v) result out.new }
 {
-    let next = put_varint(out, at, u64::from(field) * 8 + VARINT);
+    let next = put_varint(out, at, u64::from(tag));
     put_varint(out, next, v)
 }
 
-fn put_int32(out: &mut [u8], at: usize, omitted: u32, field: u32, v: u32) -> usize
-    requires { at + length (int32_unless omitted field v) ≤ length out.old }
-    ensures { PutPost out.old at (int32_unless omitted field v) result out.new }
+fn put_int32(out: &mut [u8], at: usize, omitted: u32, tag: u32, v: u32) -> usize
+    requires wire_type { tag % 8 ≡ VARINT }
+    requires room { at + length (int32_unless omitted (tag / 8) v) ≤ length out.old }
+    ensures { PutPost out.old at (int32_unless omitted (tag / 8) v) result out.new }
 {
     if v == omitted {
         return at;
     }
-    put_number(out, at, field, sign_extended(v))
-}
-
-fn put_prefix(out: &mut [u8], at: usize, field: u32, n: usize) -> usize
-    requires { at + length (length_prefix field n) ≤ length out.old }
-    ensures { PutPost out.old at (length_prefix field n) result out.new }
-{
-    let next = put_varint(out, at, u64::from(field) * 8 + LEN);
-    put_varint(out, next, n as u64)
+    put_pair(out, at, tag, sign_extended(v))
 }
 
 // For other writers too: the bytes of `d` at `at`.
@@ -100,14 +89,15 @@ pub fn put_bytes(out: &mut [u8], at: usize, d: &[u8]) -> usize
     end
 }
 
-fn put_field(out: &mut [u8], at: usize, field: u32, present: bool, d: &[u8]) -> usize
-    requires { at + length (bytes_field field (when_present present d.now)) ≤ length out.old }
-    ensures { PutPost out.old at (bytes_field field (when_present present d.now)) result out.new }
+fn put_field(out: &mut [u8], at: usize, tag: u32, d: Option<&[u8]>) -> usize
+    requires wire_type { tag % 8 ≡ LEN }
+    requires room { at + length (bytes_field (tag / 8) (lent_field d)) ≤ length out.old }
+    ensures { PutPost out.old at (bytes_field (tag / 8) (lent_field d.entry)) result out.new }
 {
-    if !present {
+    let Some(d) = d else {
         return at;
-    }
-    let next = put_prefix(out, at, field, d.len());
+    };
+    let next = put_pair(out, at, tag, d.len() as u64);
     put_bytes(out, next, d)
 }
 
@@ -115,20 +105,20 @@ impl Fields {
     fn numbers_len(self) -> usize
         ensures { result ≡ length (outer_numbers (state_of [] self)) }
     {
-        number_len(1, sign_extended(self.aggregator_type))
-            + number_len(2, self.num_values)
-            + int32_len(1, 3, self.encoding_version)
-            + int32_len(0, 4, self.value_type)
+        pair_len(TYPE_TAG, sign_extended(self.aggregator_type))
+            + pair_len(NUM_VALUES_TAG, self.num_values)
+            + int32_len(NO_VERSION, VERSION_TAG, self.encoding_version)
+            + int32_len(0, VALUE_TYPE_TAG, self.value_type)
     }
 
     fn put_numbers(self, out: &mut [u8], at: usize) -> usize
         requires { at + length (outer_numbers (state_of [] self)) ≤ length out.old }
         ensures { PutPost out.old at (outer_numbers (state_of [] self)) result out.new }
     {
-        let second = put_number(out, at, 1, sign_extended(self.aggregator_type));
-        let third = put_number(out, second, 2, self.num_values);
-        let fourth = put_int32(out, third, 1, 3, self.encoding_version);
-        put_int32(out, fourth, 0, 4, self.value_type)
+        let second = put_pair(out, at, TYPE_TAG, sign_extended(self.aggregator_type));
+        let third = put_pair(out, second, NUM_VALUES_TAG, self.num_values);
+        let fourth = put_int32(out, third, NO_VERSION, VERSION_TAG, self.encoding_version);
+        put_int32(out, fourth, 0, VALUE_TYPE_TAG, self.value_type)
     }
 }
 
@@ -136,18 +126,18 @@ impl HllFields {
     fn numbers_len(self) -> usize
         ensures { result ≡ length (hll_numbers (hll_of [] self)) }
     {
-        int32_len(0, 2, self.sparse_size)
-            + int32_len(0, 3, self.precision)
-            + int32_len(0, 4, self.sparse_precision)
+        int32_len(0, SPARSE_SIZE_TAG, self.sparse_size)
+            + int32_len(0, PRECISION_TAG, self.precision)
+            + int32_len(0, SPARSE_PRECISION_TAG, self.sparse_precision)
     }
 
     fn put_numbers(self, out: &mut [u8], at: usize) -> usize
         requires { at + length (hll_numbers (hll_of [] self)) ≤ length out.old }
         ensures { PutPost out.old at (hll_numbers (hll_of [] self)) result out.new }
     {
-        let second = put_int32(out, at, 0, 2, self.sparse_size);
-        let third = put_int32(out, second, 0, 3, self.precision);
-        put_int32(out, third, 0, 4, self.sparse_precision)
+        let second = put_int32(out, at, 0, SPARSE_SIZE_TAG, self.sparse_size);
+        let third = put_int32(out, second, 0, PRECISION_TAG, self.precision);
+        put_int32(out, third, 0, SPARSE_PRECISION_TAG, self.sparse_precision)
     }
 }
 
@@ -156,15 +146,14 @@ impl<'a> StateView<'a> {
     fn hll_start_len(self) -> usize
         ensures { result ≡ length (hll_start (state_of self.entry.bytes.now self.entry.fields).hll) }
     {
-        let h = self.fields.hll;
-        h.numbers_len() + field_len(5, h.data_present, self.data())
+        self.fields.hll.numbers_len() + field_len(DATA_TAG, self.data_field())
     }
 
     fn hll_len(self) -> usize
         requires { length (bytes_or_none (state_of self.bytes.now self.fields).hll.«data») + length (bytes_or_none (state_of self.bytes.now self.fields).hll.sparse_data) < 2 ^ 63 }
         ensures { result ≡ length (hll_bytes (state_of self.entry.bytes.now self.entry.fields).hll) }
     {
-        self.hll_start_len() + field_len(6, self.fields.hll.sparse_data_present, self.sparse_data())
+        self.hll_start_len() + field_len(SPARSE_DATA_TAG, self.sparse_data_field())
     }
 
     // The nested message with as many bytes of sparse data as the fields say, wherever they are.
@@ -173,7 +162,7 @@ impl<'a> StateView<'a> {
         ensures { result ≡ length (hll_head (state_of self.entry.bytes.now self.entry.fields).hll self.entry.fields.hll.sparse_data.len) + self.entry.fields.hll.sparse_data.len }
     {
         let n = self.fields.hll.sparse_data.len;
-        self.hll_start_len() + prefix_len(6, n) + n
+        self.hll_start_len() + pair_len(SPARSE_DATA_TAG, n as u64) + n
     }
 
     // How many bytes `encode_head` writes.
@@ -182,7 +171,7 @@ impl<'a> StateView<'a> {
         ensures { result ≡ length (head_of (state_of self.entry.bytes.now self.entry.fields) self.entry.fields.hll.sparse_data.len) }
     {
         let nested = self.nested_len();
-        let outer = self.fields.numbers_len() + prefix_len(112, nested);
+        let outer = self.fields.numbers_len() + pair_len(HLL_STATE_TAG, nested as u64);
         outer + (nested - self.fields.hll.sparse_data.len)
     }
 
@@ -192,7 +181,7 @@ impl<'a> StateView<'a> {
         ensures { result ≡ length (encode_of (state_of self.entry.bytes.now self.entry.fields)) }
     {
         let nested = self.hll_len();
-        self.fields.numbers_len() + prefix_len(112, nested) + nested
+        self.fields.numbers_len() + pair_len(HLL_STATE_TAG, nested as u64) + nested
     }
 
     // A state up to its sparse data, where the nested message has `n` bytes.
@@ -200,11 +189,10 @@ impl<'a> StateView<'a> {
         requires { length (start_of (state_of self.bytes.now self.fields) n) ≤ length out.old }
         ensures { PutPost out.old 0 (start_of (state_of self.entry.bytes.now self.entry.fields) n) result out.new }
     {
-        let h = self.fields.hll;
         let prefix = self.fields.put_numbers(out, 0);
-        let numbers = put_prefix(out, prefix, 112, n);
-        let field = h.put_numbers(out, numbers);
-        put_field(out, field, 5, h.data_present, self.data())
+        let numbers = put_pair(out, prefix, HLL_STATE_TAG, n as u64);
+        let field = self.fields.hll.put_numbers(out, numbers);
+        put_field(out, field, DATA_TAG, self.data_field())
     }
 
     // Everything before the bytes of the sparse data, of which there are as many as the fields say: the caller has the rest of `out` filled by
@@ -213,8 +201,9 @@ impl<'a> StateView<'a> {
         requires { length (head_of (state_of self.bytes.now self.fields) self.fields.hll.sparse_data.len) + self.fields.hll.sparse_data.len ≤ length out.old }
         ensures { PutPost out.old 0 (head_of (state_of self.entry.bytes.now self.entry.fields) self.entry.fields.hll.sparse_data.len) result out.new }
     {
+        let n = self.fields.hll.sparse_data.len;
         let at = self.put_start(self.nested_len(), out);
-        put_prefix(out, at, 6, self.fields.hll.sparse_data.len)
+        put_pair(out, at, SPARSE_DATA_TAG, n as u64)
     }
 
     fn put_state(self, out: &mut [u8]) -> usize
@@ -222,13 +211,7 @@ impl<'a> StateView<'a> {
         ensures { PutPost out.old 0 (encode_of (state_of self.entry.bytes.now self.entry.fields)) result out.new }
     {
         let at = self.put_start(self.hll_len(), out);
-        put_field(
-            out,
-            at,
-            6,
-            self.fields.hll.sparse_data_present,
-            self.sparse_data(),
-        )
+        put_field(out, at, SPARSE_DATA_TAG, self.sparse_data_field())
     }
 
     // The two data fields are compared with the room first, one after the other, so that no sum can overflow.

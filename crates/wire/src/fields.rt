@@ -23,6 +23,7 @@ pub struct Part {
     pub len: usize,
 }
 
+// A tag is below 2^32, with a field number above 0.
 pub fn read_tag(s: &[u8], c: Cursor) -> Result<(u32, Cursor), ReadError>
     ensures { TagPost s.now c.at result }
 {
@@ -46,6 +47,7 @@ pub(crate) fn take(s: &[u8], c: Cursor, n: u64) -> Result<(Part, Cursor), ReadEr
     Ok((Part { start, len }, Cursor { at: start + len }))
 }
 
+// The bytes of a field of wire type LEN, behind their length.
 pub fn length_delimited(s: &[u8], c: Cursor) -> Result<(Part, Cursor), ReadError>
     ensures { DelimitedPost s.now c.at result }
 {
@@ -53,6 +55,7 @@ pub fn length_delimited(s: &[u8], c: Cursor) -> Result<(Part, Cursor), ReadError
     take(s, next, n)
 }
 
+// Past a field's value. The wire type is the low three bits of the tag.
 pub fn skip(s: &[u8], tag: u32, c: Cursor) -> Result<Cursor, ReadError>
     requires { c.at ≤ length s.now }
     ensures { SkipPost s.now tag c.at result }

@@ -5,11 +5,11 @@
 // function. `small_list` is new.
 #![tactic(auto)]
 
-pub mod compact;
+mod compact;
 pub mod encoding;
 pub mod fields;
 pub mod read_error;
-pub mod small_list;
+mod small_list;
 pub mod state;
 pub mod varint;
 pub mod view;

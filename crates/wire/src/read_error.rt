@@ -1,8 +1,6 @@
 // Why a state cannot be read. Takes the place of the texts of `Error::Proto` in src/proto.rs of zetasketch-rs at commit 9abe68bf87
 // (Apache-2.0, see NOTICE).
 
-use std::fmt;
-
 // The number of each is that of document 01's question, so that `e as u8` is what a caller is told.
 #[derive(Clone, Copy, Debug, PartialEq, Eq)]
 pub enum ReadError {
@@ -14,15 +12,4 @@ pub enum ReadError {
     InvalidTag = 5,
     // A field that is skipped has another wire type than 0, 1, 2 and 5.
     InvalidWireType = 6,
-}
-
-impl fmt::Display for ReadError {
-    fn fmt<W: fmt::Write>(&self, f: &mut fmt::Formatter<W>) -> fmt::Result {
-        f.write_str(match self {
-            ReadError::Truncated => "the bytes end inside a varint or a field",
-            ReadError::VarintTooLong => "a varint is longer than ten bytes",
-            ReadError::InvalidTag => "a tag is 2^32 or more, or its field number is 0",
-            ReadError::InvalidWireType => "a skipped field has an unknown wire type",
-        })
-    }
 }

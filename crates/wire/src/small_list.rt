@@ -12,6 +12,7 @@ use crate::state::{Fields, HllFields};
 pub(crate) fn parse_small_list(s: &[u8]) -> Option<Fields>
     ensures { CompactPost s.now result }
 {
+    // Tags 8, 16, 24 and 32 are those of the fields 1 to 4, `82 07` is that of field 112 and 50 that of field 6.
     let &[8, 112, 16, count, 24, 2, ref rest @ ..] = s else {
         return None;
     };
@@ -40,6 +41,7 @@ pub(crate) fn parse_small_list(s: &[u8]) -> Option<Fields>
     if 128 <= count | value_type | sparse_size | precision | sparse_precision | nested_len {
         return None;
     }
+    // In the nested message eight bytes stand before the list.
     if usize::from(nested_len) != list.len() + 8 || usize::from(list_len) != list.len() {
         return None;
     }

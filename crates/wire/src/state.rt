@@ -1,6 +1,7 @@
 // Reading a state. Ported from `parse`, `parse_general` and `parse_hll` of `StateView` in src/proto.rs of zetasketch-rs at commit
 // 9abe68bf87 (Apache-2.0, see NOTICE). Changed: the fields are a struct by value with the positions of the two data fields, and a turn of
-// each loop is a function, and a cursor that jumps is no count for a `for`. `StateView` itself, the fields with the caller's bytes, is in view.rt.
+// each loop is a function. The loops are `while`: a turn moves the cursor by as many bytes as a field takes, and a `for` would count by one.
+// `StateView` itself, the fields with the caller's bytes, is in view.rt.
 ghost use Rattle.std.specs.Prelude.{◌≡◌, List, ℕ, ◌+◌, ◌<◌, ◌^◌, length};
 ghost use Rattle.wire.specs.Compact.{CompactPost};
 ghost use Rattle.wire.specs.State.{state_of, empty_state, HllInside, ParsePost, StepPost, HllStepPost, HllPost};
@@ -37,16 +38,23 @@ pub struct Fields {
     pub hll: HllFields,
 }
 
+// What is read of a state that has no field for it; the other numbers are then 0.
+pub(crate) const NO_TYPE: u32 = 112;
+
+pub(crate) const NO_VERSION: u32 = 1;
+
+// The tags of the outer fields, in which the type of a number is VARINT.
 pub(crate) const TYPE_TAG: u32 = 8;
 
 pub(crate) const NUM_VALUES_TAG: u32 = 16;
 
-pub(crate) const ENCODING_VERSION_TAG: u32 = 24;
+pub(crate) const VERSION_TAG: u32 = 24;
 
 pub(crate) const VALUE_TYPE_TAG: u32 = 32;
 
 pub(crate) const HLL_STATE_TAG: u32 = 898;
 
+// The tags of the nested message's fields.
 pub(crate) const SPARSE_SIZE_TAG: u32 = 16;
 
 pub(crate) const PRECISION_TAG: u32 = 24;
@@ -72,9 +80,9 @@ pub(crate) fn empty() -> Fields
         sparse_data: absent,
     };
     Fields {
-        aggregator_type: 112,
+        aggregator_type: NO_TYPE,
         num_values: 0,
-        encoding_version: 1,
+        encoding_version: NO_VERSION,
         value_type: 0,
         hll,
     }
@@ -98,57 +106,32 @@ fn hll_field(
     m: &[u8],
     base: usize,
     c: Cursor,
-    h: HllFields,
+    mut h: HllFields,
 ) -> Result<(HllFields, Cursor), ReadError>
     requires { base + length m.now < 2 ^ 64 }
     ensures { HllStepPost m.now base c.at h result }
 {
     let (tag, value) = read_tag(m, c)?;
+    let next;
     match tag {
-        SPARSE_SIZE_TAG => {
-            let (sparse_size, next) = read_varint32(m, value)?;
-            Ok((HllFields { sparse_size, ..h }, next))
-        }
-        PRECISION_TAG => {
-            let (precision, next) = read_varint32(m, value)?;
-            Ok((HllFields { precision, ..h }, next))
-        }
-        SPARSE_PRECISION_TAG => {
-            let (sparse_precision, next) = read_varint32(m, value)?;
-            Ok((
-                HllFields {
-                    sparse_precision,
-                    ..h
-                },
-                next,
-            ))
-        }
+        SPARSE_SIZE_TAG => (h.sparse_size, next) = read_varint32(m, value)?,
+        PRECISION_TAG => (h.precision, next) = read_varint32(m, value)?,
+        SPARSE_PRECISION_TAG => (h.sparse_precision, next) = read_varint32(m, value)?,
         DATA_TAG => {
-            let (part, next) = length_delimited(m, value)?;
-            let data = part.moved(base);
-            Ok((
-                HllFields {
-                    data_present: true,
-                    data,
-                    ..h
-                },
-                next,
-            ))
+            let (part, end) = length_delimited(m, value)?;
+            h.data = part.moved(base);
+            h.data_present = true;
+            next = end;
         }
         SPARSE_DATA_TAG => {
-            let (part, next) = length_delimited(m, value)?;
-            let sparse_data = part.moved(base);
-            Ok((
-                HllFields {
-                    sparse_data_present: true,
-                    sparse_data,
-                    ..h
-                },
-                next,
-            ))
+            let (part, end) = length_delimited(m, value)?;
+            h.sparse_data = part.moved(base);
+            h.sparse_data_present = true;
+            next = end;
         }
-        _ => Ok((h, skip(m, tag, value)?)),
+        _ => next = skip(m, tag, value)?,
     }
+    Ok((h, next))
 }
 
 // The nested message, which is a part of the state's bytes that starts at `base`. What was read of an earlier one stays where this one
@@ -167,46 +150,24 @@ fn parse_hll(m: &[u8], base: usize, earlier: HllFields) -> Result<HllFields, Rea
 }
 
 // One outer field. Field 112 is whole before it is opened.
-fn outer_field(s: &[u8], c: Cursor, f: Fields) -> Result<(Fields, Cursor), ReadError>
+fn outer_field(s: &[u8], c: Cursor, mut f: Fields) -> Result<(Fields, Cursor), ReadError>
     ensures { StepPost s.now c.at f result }
 {
     let (tag, value) = read_tag(s, c)?;
+    let next;
     match tag {
-        TYPE_TAG => {
-            let (aggregator_type, next) = read_varint32(s, value)?;
-            Ok((
-                Fields {
-                    aggregator_type,
-                    ..f
-                },
-                next,
-            ))
-        }
-        NUM_VALUES_TAG => {
-            let (num_values, next) = read_varint(s, value)?;
-            Ok((Fields { num_values, ..f }, next))
-        }
-        ENCODING_VERSION_TAG => {
-            let (encoding_version, next) = read_varint32(s, value)?;
-            Ok((
-                Fields {
-                    encoding_version,
-                    ..f
-                },
-                next,
-            ))
-        }
-        VALUE_TYPE_TAG => {
-            let (value_type, next) = read_varint32(s, value)?;
-            Ok((Fields { value_type, ..f }, next))
-        }
+        TYPE_TAG => (f.aggregator_type, next) = read_varint32(s, value)?,
+        NUM_VALUES_TAG => (f.num_values, next) = read_varint(s, value)?,
+        VERSION_TAG => (f.encoding_version, next) = read_varint32(s, value)?,
+        VALUE_TYPE_TAG => (f.value_type, next) = read_varint32(s, value)?,
         HLL_STATE_TAG => {
-            let (part, next) = length_delimited(s, value)?;
-            let hll = parse_hll(&s[part.start..next.at], part.start, f.hll)?;
-            Ok((Fields { hll, ..f }, next))
+            let (part, end) = length_delimited(s, value)?;
+            f.hll = parse_hll(&s[part.start..end.at], part.start, f.hll)?;
+            next = end;
         }
-        _ => Ok((f, skip(s, tag, value)?)),
+        _ => next = skip(s, tag, value)?,
     }
+    Ok((f, next))
 }
 
 // Any layout.

@@ -11,7 +11,7 @@ pub struct Cursor {
     pub at: usize,
 }
 
-// The varint at a cursor, of any length. A shift keeps the low 64 bits, so the tenth byte gives one bit.
+// The varint at a cursor, of any length. A byte's low seven bits are payload, and one of 128 or more says that another byte follows. A shift keeps the low 64 bits, so the tenth byte gives one bit.
 fn long_varint(s: &[u8], c: Cursor) -> Result<(u64, Cursor), ReadError>
     ensures { VarintPost s.now c.at result }
 {
@@ -68,16 +68,10 @@ pub fn put_varint(out: &mut [u8], start: usize, value: u64) -> usize
 pub fn varint_len(v: u32) -> usize
     ensures { result ≡ length (varint_bytes 5 v) }
 {
-    match v {
-        0..=0x7f => 1,
-        0x80..=0x3fff => 2,
-        0x4000..=0x1f_ffff => 3,
-        0x20_0000..=0x0fff_ffff => 4,
-        _ => 5,
-    }
+    varint_len_64(u64::from(v))
 }
 
-// The same of any value: 1 to 10. (Not one function with `varint_len`, which tells five cases apart without a loop.)
+// The same of any value: 1 to 10.
 pub fn varint_len_64(v: u64) -> usize
     ensures { result ≡ length (varint_bytes 10 v) }
 {

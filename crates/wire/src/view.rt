@@ -2,7 +2,7 @@
 // 9abe68bf87 (Apache-2.0, see NOTICE). Changed: where the Rust holds each data field as an optional slice, this holds the bytes once, and `fields`
 // says of each data field whether it is there, where it starts and how long it is.
 ghost use Rattle.std.specs.Prelude.{◌≡◌, IfOk};
-ghost use Rattle.wire.specs.State.{part_of, state_of, bytes_or_none};
+ghost use Rattle.wire.specs.State.{part_of, state_of, lent_field, bytes_or_none};
 ghost use Rattle.wire.specs.View.{ViewPost};
 
 use crate::fields::Part;
@@ -17,15 +17,15 @@ pub struct StateView<'a> {
     pub fields: Fields,
 }
 
-// The bytes of a data field, as the part of the state's bytes that holds it, and none where it is absent.
-fn part_bytes(bytes: &[u8], present: bool, p: Part) -> &[u8]
-    ensures { result.now ≡ bytes_or_none (part_of bytes.now present p) }
+// The bytes of a data field, as the part of the state's bytes that holds it.
+fn part_bytes(bytes: &[u8], present: bool, p: Part) -> Option<&[u8]>
+    ensures { lent_field result ≡ part_of bytes.now present p }
 {
-    if !present || bytes.len() <= p.start {
-        return &bytes[..0];
+    if !present {
+        return None;
     }
-    let rest = &bytes[p.start..];
-    &rest[..p.len.min(rest.len())]
+    let rest = &bytes[p.start.min(bytes.len())..];
+    Some(&rest[..p.len.min(rest.len())])
 }
 
 impl<'a> StateView<'a> {
@@ -38,9 +38,9 @@ impl<'a> StateView<'a> {
         Ok(StateView { bytes, fields })
     }
 
-    // Field 5, none where it is absent.
-    pub fn data(self) -> &'a [u8]
-        ensures { result.now ≡ bytes_or_none (state_of self.entry.bytes.now self.entry.fields).hll.«data» }
+    // Field 5.
+    pub(crate) fn data_field(self) -> Option<&'a [u8]>
+        ensures { lent_field result ≡ (state_of self.entry.bytes.now self.entry.fields).hll.«data» }
     {
         part_bytes(
             self.bytes,
@@ -49,14 +49,28 @@ impl<'a> StateView<'a> {
         )
     }
 
-    // Field 6, likewise.
-    pub fn sparse_data(self) -> &'a [u8]
-        ensures { result.now ≡ bytes_or_none (state_of self.entry.bytes.now self.entry.fields).hll.sparse_data }
+    // Field 6.
+    pub(crate) fn sparse_data_field(self) -> Option<&'a [u8]>
+        ensures { lent_field result ≡ (state_of self.entry.bytes.now self.entry.fields).hll.sparse_data }
     {
         part_bytes(
             self.bytes,
             self.fields.hll.sparse_data_present,
             self.fields.hll.sparse_data,
         )
+    }
+
+    // The bytes of field 5, no bytes where it is absent.
+    pub fn data(self) -> &'a [u8]
+        ensures { result.now ≡ bytes_or_none (state_of self.entry.bytes.now self.entry.fields).hll.«data» }
+    {
+        self.data_field().unwrap_or(b"")
+    }
+
+    // The bytes of field 6, likewise.
+    pub fn sparse_data(self) -> &'a [u8]
+        ensures { result.now ≡ bytes_or_none (state_of self.entry.bytes.now self.entry.fields).hll.sparse_data }
+    {
+        self.sparse_data_field().unwrap_or(b"")
     }
 }

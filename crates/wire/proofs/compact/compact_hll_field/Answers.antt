@@ -22,10 +22,10 @@ returns-in-32 c =
 
 pub returns-in_ok-part-in-42 : goal.returns-in_ok-part-in-42
 returns-in_ok-part-in-42 c = hll_bytes (small_tag c.in_ok-tag.ensures (rw c.in-42.is (omega arith))) (data_is _ c.in-42.is)
-    (small_bytes c.in_ok-v.ensures c.from.ensures _ c.take.ensures c.in_ok-part-in-42.ensures.value) (λ s. rw c.moved-data.ensures)
-    (λ s k i. record { «data» = record { inside = rw c.moved-data.ensures k; absent = tt }; sparse_data = i.sparse_data })
+    (small_bytes c.in_ok-v.ensures c.from.ensures _ c.take.ensures c.in_ok-part-in-42.ensures.value) (λ s. rw c.moved-h.ensures)
+    (λ s k i. record { «data» = record { inside = rw c.moved-h.ensures k; absent = tt }; sparse_data = i.sparse_data })
 
 pub returns-in_ok-part-in-50 : goal.returns-in_ok-part-in-50
 returns-in_ok-part-in-50 c = hll_bytes (small_tag c.in_ok-tag.ensures (rw c.in-50.is (omega arith))) (sparse_data_is _ c.in-50.is)
-    (small_bytes c.in_ok-v.ensures c.from-in-50.ensures _ c.take-in-50.ensures c.in_ok-part-in-50.ensures.value) (λ s. rw c.moved-sparse_data.ensures)
-    (λ s k i. record { «data» = i.«data»; sparse_data = record { inside = rw c.moved-sparse_data.ensures k; absent = tt } })
+    (small_bytes c.in_ok-v.ensures c.from-in-50.ensures _ c.take-in-50.ensures c.in_ok-part-in-50.ensures.value) (λ s. rw c.moved-h-in-50.ensures)
+    (λ s k i. record { «data» = i.«data»; sparse_data = record { inside = rw c.moved-h-in-50.ensures k; absent = tt } })

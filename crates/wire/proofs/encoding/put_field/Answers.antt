@@ -1,16 +1,18 @@
 -- An absent field puts nothing; a present one its prefix and then its bytes.
-use Rattle.wire.proofs.EncodingLaws.{first_room, next_room, put_both, put_none, field_absent, field_present}
-use Rattle.std.proofs.lemmas.Bool.{not_from_false, not_from_true}
+use mathlib.Core.Path.{ap}
+use Prim.Native.Nat.{◌/◌}
+use Rattle.wire.specs.State.{lent_field}
+use Rattle.wire.proofs.EncodingLaws.{first_room, next_room, put_both, put_none, field_none, field_is}
 use Rattle.wire.proofs.encoding.put_field.Goals as goal
 
-pub returns-then-not-present : goal.returns-then-not-present
-returns-then-not-present c = put_none c.args.out.now c.args.at (field_absent c.args.field c.args.present c.args.d.now (not_from_false _ c.if-not-present.true))
+pub returns-in_default : goal.returns-in_default
+returns-in_default c = put_none c.args.out.now c.args.at (field_none (c.args.tag / 8) (ap lent_field c.in_default.is))
 
-pub put_prefix-next-requires : goal.put_prefix-next-requires
-put_prefix-next-requires c = first_room c.args.out.now c.args.at (field_present c.args.field c.args.present c.args.d.now (not_from_true _ c.if-not-present.false)) c.requires
+pub put_pair-next-requires : goal.put_pair-next-requires
+put_pair-next-requires c = first_room c.args.out.now c.args.at (field_is c.args.tag c.requires.wire_type (ap lent_field c.in-Some.is)) c.requires.room
 
 pub put_bytes-requires : goal.put_bytes-requires
-put_bytes-requires c = next_room (field_present c.args.field c.args.present c.args.d.now (not_from_true _ c.if-not-present.false)) c.put_prefix-next.ensures c.requires
+put_bytes-requires c = next_room (field_is c.args.tag c.requires.wire_type (ap lent_field c.in-Some.is)) c.put_pair-next.ensures c.requires.room
 
 pub returns : goal.returns
-returns c = put_both (field_present c.args.field c.args.present c.args.d.now (not_from_true _ c.if-not-present.false)) c.put_prefix-next.ensures c.put_bytes.ensures
+returns c = put_both (field_is c.args.tag c.requires.wire_type (ap lent_field c.in-Some.is)) c.put_pair-next.ensures c.put_bytes.ensures

@@ -11,24 +11,24 @@ use Rattle.wire.proofs.state.Fields.numbers_len.Goals as goal
 
 pub overflow_add-result : goal.overflow_add-result
 overflow_add-result c =
-    let first : c.number_len.result ≡ length (number_field 1 (sign_extended c.args.self.aggregator_type)) = c.number_len.ensures ∙ ap (λ (v : ℕ). length (number_field 1 v)) c.sign_extended.ensures in
+    let first : c.pair_len.result ≡ length (number_field 1 (sign_extended c.args.self.aggregator_type)) = c.pair_len.ensures ∙ ap (λ (v : ℕ). length (number_field 1 v)) c.sign_extended.ensures in
     let f = c.args.self in
-    omega (arith, first, c.number_len-2.ensures, outer_numbers_length (state_of [] f), outer_numbers_le (state_of [] f))
+    omega (arith, first, c.pair_len-2.ensures, outer_numbers_length (state_of [] f), outer_numbers_le (state_of [] f))
 
 pub overflow_add-result-2 : goal.overflow_add-result-2
 overflow_add-result-2 c =
-    let first : c.number_len.result ≡ length (number_field 1 (sign_extended c.args.self.aggregator_type)) = c.number_len.ensures ∙ ap (λ (v : ℕ). length (number_field 1 v)) c.sign_extended.ensures in
+    let first : c.pair_len.result ≡ length (number_field 1 (sign_extended c.args.self.aggregator_type)) = c.pair_len.ensures ∙ ap (λ (v : ℕ). length (number_field 1 v)) c.sign_extended.ensures in
     let f = c.args.self in
-    omega (arith, first, c.number_len-2.ensures, c.int32_len.ensures, outer_numbers_length (state_of [] f), outer_numbers_le (state_of [] f))
+    omega (arith, first, c.pair_len-2.ensures, c.int32_len.ensures, outer_numbers_length (state_of [] f), outer_numbers_le (state_of [] f))
 
 pub overflow_add-result-3 : goal.overflow_add-result-3
 overflow_add-result-3 c =
-    let first : c.number_len.result ≡ length (number_field 1 (sign_extended c.args.self.aggregator_type)) = c.number_len.ensures ∙ ap (λ (v : ℕ). length (number_field 1 v)) c.sign_extended.ensures in
+    let first : c.pair_len.result ≡ length (number_field 1 (sign_extended c.args.self.aggregator_type)) = c.pair_len.ensures ∙ ap (λ (v : ℕ). length (number_field 1 v)) c.sign_extended.ensures in
     let f = c.args.self in
-    omega (arith, first, c.number_len-2.ensures, c.int32_len.ensures, c.int32_len-2.ensures, outer_numbers_length (state_of [] f), outer_numbers_le (state_of [] f))
+    omega (arith, first, c.pair_len-2.ensures, c.int32_len.ensures, c.int32_len-2.ensures, outer_numbers_length (state_of [] f), outer_numbers_le (state_of [] f))
 
 pub returns : goal.returns
 returns c =
-    let first : c.number_len.result ≡ length (number_field 1 (sign_extended c.args.self.aggregator_type)) = c.number_len.ensures ∙ ap (λ (v : ℕ). length (number_field 1 v)) c.sign_extended.ensures in
+    let first : c.pair_len.result ≡ length (number_field 1 (sign_extended c.args.self.aggregator_type)) = c.pair_len.ensures ∙ ap (λ (v : ℕ). length (number_field 1 v)) c.sign_extended.ensures in
     let f = c.args.self in
-    omega (arith, first, c.number_len-2.ensures, c.int32_len.ensures, c.int32_len-2.ensures, outer_numbers_length (state_of [] f))
+    omega (arith, first, c.pair_len-2.ensures, c.int32_len.ensures, c.int32_len-2.ensures, outer_numbers_length (state_of [] f))

@@ -19,8 +19,8 @@ put_start-at-requires c =
     let len : ℕ = c.args.self.fields.hll.sparse_data.len in
     omega (arith, two_length (head_is state len c.nested_len.result c.nested_len.ensures), c.requires)
 
-pub put_prefix-requires : goal.put_prefix-requires
-put_prefix-requires c =
+pub put_pair-requires : goal.put_pair-requires
+put_pair-requires c =
     let state : State = state_of c.args.self.bytes.now c.args.self.fields in
     let len : ℕ = c.args.self.fields.hll.sparse_data.len in
     let room : 0 + length (head_of state len) ≤ length c.args.out.now = omega (arith, c.requires) in
@@ -30,4 +30,4 @@ pub returns : goal.returns
 returns c =
     let state : State = state_of c.args.self.bytes.now c.args.self.fields in
     let len : ℕ = c.args.self.fields.hll.sparse_data.len in
-    put_both (head_is state len c.nested_len.result c.nested_len.ensures) c.put_start-at.ensures c.put_prefix.ensures
+    put_both (head_is state len c.nested_len.result c.nested_len.ensures) c.put_start-at.ensures c.put_pair.ensures

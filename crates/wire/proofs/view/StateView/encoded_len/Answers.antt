@@ -13,19 +13,19 @@ pub overflow_add-result : goal.overflow_add-result
 overflow_add-result c =
     let state : State = state_of c.args.self.bytes.now c.args.self.fields in
     let outer : c.numbers_len.result ≡ length (outer_numbers state) = c.numbers_len.ensures ∙ ap (λ (l : List ℕ). length l) (outer_numbers_any c.args.self.bytes.now c.args.self.fields) in
-    let prefix : c.prefix_len.result ≡ length (length_prefix 112 (length (hll_bytes state.hll))) = c.prefix_len.ensures ∙ ap (λ (n : ℕ). length (length_prefix 112 n)) c.hll_len-nested.ensures in
+    let prefix : c.pair_len.result ≡ length (length_prefix 112 (length (hll_bytes state.hll))) = c.pair_len.ensures ∙ ap (λ (n : ℕ). length (length_prefix 112 n)) c.hll_len-nested.ensures in
     omega (arith, outer, prefix, c.hll_len-nested.ensures, encode_length state, encode_le state)
 
 pub overflow_add-result-2 : goal.overflow_add-result-2
 overflow_add-result-2 c =
     let state : State = state_of c.args.self.bytes.now c.args.self.fields in
     let outer : c.numbers_len.result ≡ length (outer_numbers state) = c.numbers_len.ensures ∙ ap (λ (l : List ℕ). length l) (outer_numbers_any c.args.self.bytes.now c.args.self.fields) in
-    let prefix : c.prefix_len.result ≡ length (length_prefix 112 (length (hll_bytes state.hll))) = c.prefix_len.ensures ∙ ap (λ (n : ℕ). length (length_prefix 112 n)) c.hll_len-nested.ensures in
+    let prefix : c.pair_len.result ≡ length (length_prefix 112 (length (hll_bytes state.hll))) = c.pair_len.ensures ∙ ap (λ (n : ℕ). length (length_prefix 112 n)) c.hll_len-nested.ensures in
     omega (arith, outer, prefix, c.hll_len-nested.ensures, encode_length state, encode_le state)
 
 pub returns : goal.returns
 returns c =
     let state : State = state_of c.args.self.bytes.now c.args.self.fields in
     let outer : c.numbers_len.result ≡ length (outer_numbers state) = c.numbers_len.ensures ∙ ap (λ (l : List ℕ). length l) (outer_numbers_any c.args.self.bytes.now c.args.self.fields) in
-    let prefix : c.prefix_len.result ≡ length (length_prefix 112 (length (hll_bytes state.hll))) = c.prefix_len.ensures ∙ ap (λ (n : ℕ). length (length_prefix 112 n)) c.hll_len-nested.ensures in
+    let prefix : c.pair_len.result ≡ length (length_prefix 112 (length (hll_bytes state.hll))) = c.pair_len.ensures ∙ ap (λ (n : ℕ). length (length_prefix 112 n)) c.hll_len-nested.ensures in
     omega (arith, outer, prefix, c.hll_len-nested.ensures, encode_length state)

@@ -1,23 +1,22 @@
 -- The start and field 6 make up the message; the sum fits by what is required of the two data fields.
 use native.Mathlib.Omega.{arith}
 use mathlib.Core.List.{List}
+use mathlib.Core.Option.{Option}
 use mathlib.Core.Path.{◌≡◌, ap, ap₂, ◌∙◌, sym}
 use Prim.Native.Nat.{ℕ, ◌+◌}
-use lib.ListN.{length, take, drop}
+use lib.ListN.{length}
 use Rattle.wire.specs.State.{state_of}
 use Rattle.wire.specs.Encoding.{bytes_field}
-use Rattle.wire.proofs.EncodingLaws.{hll_numbers_le, hll_start_length, hll_length, field_le, field_bytes}
+use Rattle.wire.proofs.EncodingLaws.{hll_numbers_le, hll_start_length, hll_length, field_le}
 use Rattle.wire.proofs.view.StateView.hll_len.Goals as goal
 
 pub overflow_add-result : goal.overflow_add-result
 overflow_add-result c =
-    let field : c.field_len.result ≡ length (bytes_field 6 (state_of c.args.self.bytes.now c.args.self.fields).hll.sparse_data) = let p = c.args.self.fields.hll.sparse_data in
-    c.field_len.ensures
-    ∙ ap (λ (l : List ℕ). length l) (field_bytes 6 c.args.self.fields.hll.sparse_data_present (take p.len (drop p.start c.args.self.bytes.now)) _ c.sparse_data.ensures) in let h = (state_of c.args.self.bytes.now c.args.self.fields).hll in
+    let field : c.field_len.result ≡ length (bytes_field 6 (state_of c.args.self.bytes.now c.args.self.fields).hll.sparse_data) = c.field_len.ensures ∙ ap (λ (o : Option (List ℕ)). length (bytes_field 6 o)) c.sparse_data_field.ensures in
+    let h = (state_of c.args.self.bytes.now c.args.self.fields).hll in
     omega (arith, c.hll_start_len.ensures, field, hll_start_length h, hll_numbers_le h, field_le 5 h.«data», field_le 6 h.sparse_data)
 
 pub returns : goal.returns
 returns c =
-    let field : c.field_len.result ≡ length (bytes_field 6 (state_of c.args.self.bytes.now c.args.self.fields).hll.sparse_data) = let p = c.args.self.fields.hll.sparse_data in
-    c.field_len.ensures
-    ∙ ap (λ (l : List ℕ). length l) (field_bytes 6 c.args.self.fields.hll.sparse_data_present (take p.len (drop p.start c.args.self.bytes.now)) _ c.sparse_data.ensures) in ap₂ (λ (x y : ℕ). x + y) c.hll_start_len.ensures field ∙ sym (hll_length (state_of c.args.self.bytes.now c.args.self.fields).hll)
+    let field : c.field_len.result ≡ length (bytes_field 6 (state_of c.args.self.bytes.now c.args.self.fields).hll.sparse_data) = c.field_len.ensures ∙ ap (λ (o : Option (List ℕ)). length (bytes_field 6 o)) c.sparse_data_field.ensures in
+    ap₂ (λ (x y : ℕ). x + y) c.hll_start_len.ensures field ∙ sym (hll_length (state_of c.args.self.bytes.now c.args.self.fields).hll)

@@ -7,14 +7,14 @@ use Rattle.wire.proofs.view.StateView.nested_len.Goals as goal
 pub overflow_add-result : goal.overflow_add-result
 overflow_add-result c =
     let state : State = state_of c.args.self.bytes.now c.args.self.fields in
-    omega (arith, c.hll_start_len.ensures, c.prefix_len.ensures, hll_head_length state.hll c.args.self.fields.hll.sparse_data.len, c.requires)
+    omega (arith, c.hll_start_len.ensures, c.pair_len.ensures, hll_head_length state.hll c.args.self.fields.hll.sparse_data.len, c.requires)
 
 pub overflow_add-result-2 : goal.overflow_add-result-2
 overflow_add-result-2 c =
     let state : State = state_of c.args.self.bytes.now c.args.self.fields in
-    omega (arith, c.hll_start_len.ensures, c.prefix_len.ensures, hll_head_length state.hll c.args.self.fields.hll.sparse_data.len, c.requires)
+    omega (arith, c.hll_start_len.ensures, c.pair_len.ensures, hll_head_length state.hll c.args.self.fields.hll.sparse_data.len, c.requires)
 
 pub returns : goal.returns
 returns c =
     let state : State = state_of c.args.self.bytes.now c.args.self.fields in
-    omega (arith, c.hll_start_len.ensures, c.prefix_len.ensures, hll_head_length state.hll c.args.self.fields.hll.sparse_data.len)
+    omega (arith, c.hll_start_len.ensures, c.pair_len.ensures, hll_head_length state.hll c.args.self.fields.hll.sparse_data.len)

@@ -1,11 +1,11 @@
 -- The start is put with the length of the nested message, and then field 6.
-use mathlib.Core.Path.{◌≡◌, sym}
+use mathlib.Core.Path.{◌≡◌, ap, sym}
 use Prim.Native.Nat.{◌+◌, ◌≤◌}
 use native.Mathlib.Omega.{arith}
-use lib.ListN.{length, take, drop}
-use Rattle.wire.specs.State.{State, state_of, when_present}
+use lib.ListN.{length}
+use Rattle.wire.specs.State.{State, state_of, lent_field}
 use Rattle.wire.specs.Encoding.{bytes_field, start_of, encode_of}
-use Rattle.wire.proofs.EncodingLaws.{Two, two_length, front_room, next_room, put_both, put_same, same_room, encode_is, encode_ge, field_bytes}
+use Rattle.wire.proofs.EncodingLaws.{Two, two_length, front_room, next_room, put_both, put_same, same_room, encode_is, encode_ge}
 use Rattle.wire.proofs.view.StateView.put_state.Goals as goal
 
 pub hll_len-requires : goal.hll_len-requires
@@ -19,17 +19,17 @@ put_start-at-requires c =
     let parts : Two (encode_of state) (start_of state c.hll_len.result) (bytes_field 6 state.hll.sparse_data) = encode_is state c.hll_len.result c.hll_len.ensures in
     omega (arith, two_length parts, c.requires)
 
-pub put_field-requires : goal.put_field-requires
-put_field-requires c =
+pub put_field-requires-clause-room : goal.put_field-requires-clause-room
+put_field-requires-clause-room c =
     let state : State = state_of c.args.self.bytes.now c.args.self.fields in
     let parts : Two (encode_of state) (start_of state c.hll_len.result) (bytes_field 6 state.hll.sparse_data) = encode_is state c.hll_len.result c.hll_len.ensures in
     let room : 0 + length (encode_of state) ≤ length c.args.out.now = front_room c.args.out.now (encode_of state) c.requires in
-    let field : bytes_field 6 (when_present c.args.self.fields.hll.sparse_data_present c.sparse_data.result.now) ≡ bytes_field 6 state.hll.sparse_data = let p = c.args.self.fields.hll.sparse_data in
-    field_bytes 6 c.args.self.fields.hll.sparse_data_present (take p.len (drop p.start c.args.self.bytes.now)) _ c.sparse_data.ensures in same_room c.put_start-at.new.out c.put_start-at.result _ _ (sym field) (next_room parts c.put_start-at.ensures room)
+    let field : bytes_field 6 (lent_field c.sparse_data_field.result) ≡ bytes_field 6 state.hll.sparse_data = ap (bytes_field 6) c.sparse_data_field.ensures in
+    same_room c.put_start-at.new.out c.put_start-at.result _ _ (sym field) (next_room parts c.put_start-at.ensures room)
 
 pub returns : goal.returns
 returns c =
     let state : State = state_of c.args.self.bytes.now c.args.self.fields in
     let parts : Two (encode_of state) (start_of state c.hll_len.result) (bytes_field 6 state.hll.sparse_data) = encode_is state c.hll_len.result c.hll_len.ensures in
-    let field : bytes_field 6 (when_present c.args.self.fields.hll.sparse_data_present c.sparse_data.result.now) ≡ bytes_field 6 state.hll.sparse_data = let p = c.args.self.fields.hll.sparse_data in
-    field_bytes 6 c.args.self.fields.hll.sparse_data_present (take p.len (drop p.start c.args.self.bytes.now)) _ c.sparse_data.ensures in put_both parts c.put_start-at.ensures (put_same field c.put_field.ensures)
+    let field : bytes_field 6 (lent_field c.sparse_data_field.result) ≡ bytes_field 6 state.hll.sparse_data = ap (bytes_field 6) c.sparse_data_field.ensures in
+    put_both parts c.put_start-at.ensures (put_same field c.put_field.ensures)
