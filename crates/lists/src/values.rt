@@ -7,6 +7,7 @@ ghost use Rattle.lists.specs.Values.{Pair, IndexPost, RankPost, mark, marked, pl
 
 // How many low bits of a marked value are its m, and the end of the values of m.
 pub(crate) const M_BITS: u32 = 6;
+
 pub(crate) const M_END: u32 = 1 << M_BITS;
 
 // A pair of precisions that a list can have, with the mark that goes with it.
