@@ -564,28 +564,6 @@ accepted p s l {vs} {rest} e = go (sums_of p s (length l) l 0) refl e
               short = m.short;
             }
 
--- A walk over a list that is accepted: it is not stopped, its values so far are the list's first ones, each is valid, and at the end they are all.
-module _ {p s : ℕ} {bytes vs : List ℕ} {at last plain : ℕ} {all rest : List ℕ} (e : decode_of p s bytes ≡ got all rest) (g : Going p s bytes vs at last plain) where
-  pub going_front : (more : List ℕ) × (all ≡ vs ++ more)
-  going_front = let j = joined_got vs (sums_of p s g.bound (drop at bytes) last) (sym g.whole ∙ (accepted p s bytes e).sums) in (j.0, j.1)
-
-  pub going_valid : all_valid p s vs ≡ true
-  going_valid =
-      let f = going_front in
-      (both_true (all_valid p s vs) (all_valid p s f.0)
-      (sym (ap (all_valid p s) f.1 ∙ all_append p s vs f.0) ∙ (accepted p s bytes e).all)).0
-
-  pub going_whole : length bytes ≤ at → all ≡ vs
-  going_whole h = let f : got all rest ≡ got vs [] = sym (accepted p s bytes e).sums ∙ all_read g h in cc
-
-  pub going_unstopped : at < length bytes → (x : DecodeError) → NextValuePost p s bytes at last (Err x) → ⊥
-  going_unstopped h x a = let f = going_stopped g h a in absurd (let z : ◌≡◌ {A = ℕ} 0 1 = cc in omega arith)
-
-pub going_value : {p s : ℕ} {bytes vs : List ℕ} {at last plain : ℕ} {all rest : List ℕ} {v next : ℕ} → decode_of p s bytes ≡ got all rest
-    → Going p s bytes vs at last plain → at < length bytes → NextValuePost p s bytes at last (Ok (v, next)) → valid p s v ≡ true
-going_value {p} {s} {vs = vs} {v = v} e g h a =
-    (both_true (all_valid p s vs) (valid p s v) (sym (all_more p s vs v) ∙ going_valid e (going_next g h a refl))).1
-
 -- No bytes are a list of no values, whatever the precisions are.
 pub decode_none : (p s : ℕ) → decode_of p s [] ≡ got [] []
 unfolding decode_of sums_of all_valid

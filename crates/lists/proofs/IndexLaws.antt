@@ -311,12 +311,6 @@ module _ (p s : ℕ) where
             whole = omega (arith, g.whole, n.count);
           }
 
-      -- One of the two goes on.
-      pub walk_less : 1 ≤ a + b
-      walk_less =
-          ⊎_elim (λ (h : x < y). omega (arith, ea ∙ ap (λ (t : Bool). cond t 1 0) (le-leb x y (omega arith))))
-          (λ (h : y ≤ x). omega (arith, eb ∙ ap (λ (t : Bool). cond t 1 0) (le-leb y x h))) (side x y)
-
     pub walk_out : (m ≤ i) ⊎ (length l ≤ j) → length l - k ≡ distinct_indices p s l
     walk_out w =
         let none : shared_of (slice i m l) (drop j l) ≡ 0 =

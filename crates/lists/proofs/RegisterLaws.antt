@@ -11,7 +11,6 @@ use Rattle.wire.proofs.VarintLaws.{side}
 use Rattle.lists.proofs.ValueLaws.{register_plain, register_lt, rank_plain, lowered_twice, wider, lowered_zero, lowered_bits, lowered_bits_le, lowered_register_lem, lowered_register_le, register_zero}
 use Rattle.lists.proofs.RankLaws.{max_assoc, larger_length, larger_at, largest_upper, lowered_length, lowered_at_lem, lowered_upper, lowered_least, lowered_agree, raised_with, lower_index, lower_rank, lower_none}
 use Rattle.lists.specs.declared.values.Sparse.{Sparse}
-use Rattle.lists.specs.Lists.{all_valid}
 use Rattle.lists.specs.Values.{Pair, marked, valid, register, plain_rank, IndexPost, RankPost, lowered_rank, lowered_register}
 use Rattle.lists.specs.Registers.{register_bytes, registers_of, with_registers, zeros, raise, larger, lowered_at, lowered, not_zero_count, largest, raised_by, raised_lower, lowered_in_place, offset_rank, HoldsFirst, ReadPost, StorePost, RaisePost, BothHold, ScanPre, ScanPost, LowerPre, BlockPre, BlockPost, DowngradePre, SetListPre}
 
@@ -254,9 +253,6 @@ loaded p n bytes source front e f = ap₂ (λ (l : List ℕ) (k : ℕ). l ++ dro
 pub record CountingNotZero (regs : List ℕ) (count i : ℕ) : Type 0 where
   pub few : count ≤ i
   pub sum : count + not_zero_count (drop i regs) ≡ not_zero_count regs
-
-pub count_none : (regs : List ℕ) → CountingNotZero regs 0 0
-count_none regs = record { few = zero-le; sum = let e : 0 + not_zero_count regs ≡ not_zero_count regs = omega arith in e }
 
 pub count_turn : (regs : List ℕ) (count i x r : ℕ) → i < length regs → r ≡ get_or regs i 0 → x ≡ from_bool (not (eqb r 0)) → CountingNotZero regs count i
     → CountingNotZero regs (count + x) (i + 1)
@@ -688,13 +684,6 @@ set_one p s d v i r x before after h room index ranks e raised =
     raised.raised (p - d) room (lower_index_lem p d i h index.small)
     ∙ ap₂ (λ (a b : ℕ). with_registers (p - d) (raise (registers_of (p - d) before) a b) before) (ap (λ (n : ℕ). n / 2 ^ d) index.index)
     (e ∙ ap₂ (lowered_rank d) index.index ranks.value)
-
--- With no bits to go a list raises the registers of its own precision.
-pub set_none : (enc : Sparse) (list bytes : List ℕ) → all_valid enc.normal_precision enc.sparse_precision list ≡ true
-    → register_bytes enc.normal_precision ≤ length bytes → SetListPre enc 0 list bytes
-set_none enc list bytes ok room =
-    let e : enc.normal_precision ≡ enc.normal_precision - 0 = omega arith in
-    record { ok = ok; few = zero-le; fewer = zero-le; room = subst (λ (n : ℕ). register_bytes n ≤ length bytes) e room }
 
 pub set_none_room : (enc : Sparse) (list bytes : List ℕ) → SetListPre enc 0 list bytes → register_bytes enc.normal_precision ≤ length bytes
 set_none_room enc list bytes pre =

@@ -244,9 +244,6 @@ leading_lt k n h l = let t = leading_top k n h l in omega (arith, t.1)
 pub one_shl : (k : ℕ) → k < 32 → (1 * 2 ^ k) % 2 ^ 32 ≡ 2 ^ k
 one_shl k h = omega (arith, pow-lt h)
 
-pub mask_pos : (k : ℕ) → k < 32 → 1 ≤ (1 * 2 ^ k) % 2 ^ 32
-mask_pos k h = subst (λ (m : ℕ). 1 ≤ m) (sym (one_shl k h)) (pow_pos k)
-
 pub masked : (v k : ℕ) → k < 32 → bit_and v ((1 * 2 ^ k) % 2 ^ 32 - 1) ≡ v % 2 ^ k
 masked v k h = ap (λ (m : ℕ). bit_and v (m - 1)) (one_shl k h) ∙ and_mask v k
 
@@ -518,9 +515,6 @@ zeros32 v k = count_leading_zeros 32 (bit_and v ((1 * 2 ^ k) % 2 ^ 32 - 1))
 module _ (v k : ℕ) (h : k < 32) where
   pub zeros32_low : 31 ≤ zeros32 v k + k
   zeros32_low = omega (arith, masked_zeros v k h)
-
-  pub zeros32_high : zeros32 v k ≤ 32
-  zeros32_high = leading_le 32 (bit_and v ((1 * 2 ^ k) % 2 ^ 32 - 1))
 
   zeros32_is : zeros32 v k + k - 31 ≡ 1 + count_leading_zeros k (v % 2 ^ k)
   zeros32_is = omega (arith, masked_zeros v k h)

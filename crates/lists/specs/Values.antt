@@ -57,7 +57,7 @@ unfoldable pub rank : ℕ → ℕ → ℕ → ℕ
 rank p s v = cond (marked p s v) (marked_rank v + (s - p)) (plain_rank (s - p) v)
 
 -- The largest rank at p bits: "No register above 65−p?" (14); "Question 1 asks for registers at most 65−p" (U3). A plain value's is at most s−p+1, and a marked
--- one's at most 65−s+s−p. Lowering by d bits adds at most d to a rank, and d to this.
+-- one's at most 65−s+s−p. Lowering by d bits adds at most d to a rank, and makes this bound larger by d.
 abbrev pub largest_rank : ℕ → ℕ
 largest_rank p = 65 - p
 
@@ -69,7 +69,7 @@ lowered_rank d index r = cond (index % 2 ^ d == 0) (r + d) (1 + count_leading_ze
 unfoldable pub lowered_register : ℕ → ℕ → ℕ → ℕ
 lowered_register d index r = cond (r == 0) 0 (lowered_rank d index r)
 
--- The precisions that a list can have (document 01, questions 11 and 13), and the mark that goes with them.
+-- The precisions that a list can have (document 01, questions 11 and 13).
 pub record Pair (p s : ℕ) : Type 0 where
   pub low : 4 ≤ p
   pub high : p ≤ 24

@@ -1,5 +1,5 @@
-// Tests of a whole list, for memory that was lent: nothing of it is taken on trust. A loop goes to the end though the answer is known
-// before: with a way out of it the compiler takes one value a turn, and without one many at once.
+// Tests of a whole list, for memory that was lent: nothing of it is taken on trust. A loop goes to the end even where the answer is known before. The library's
+// `is_sorted` and `all` leave their loop early, and then LLVM takes one value a turn; without a way out it takes eight.
 ghost use Rattle.std.specs.Prelude.{◌≡◌, true};
 ghost use Rattle.lists.specs.Values.{mark};
 ghost use Rattle.lists.specs.Sorting.{ascends};
@@ -9,7 +9,7 @@ ghost use Rattle.lists.specs.Lists.{all_valid};
 use crate::merging;
 use crate::values::Sparse;
 
-// Whether no value is less than the one before it.
+// Whether no value is less than the one before it. `is_sorted` takes one value a turn.
 pub fn is_ascending(l: &[u32]) -> bool
     ensures { result ≡ ascends l.now }
 {
@@ -21,7 +21,7 @@ pub fn is_ascending(l: &[u32]) -> bool
 }
 
 impl Sparse {
-    // Whether every value is valid.
+    // Whether every value is valid. `all` takes one value a turn.
     pub fn all_valid(self, l: &[u32]) -> bool
         ensures { result ≡ all_valid self.normal_precision self.sparse_precision l.now }
     {
@@ -48,7 +48,7 @@ impl Sparse {
         requires { ascends l.now ≡ true }
         ensures { result ≡ all_valid self.normal_precision self.sparse_precision l.now }
     {
-        let (plain, marked) = l.split_at(merging::split_point(l, self.rho_encoded_flag));
+        let (plain, marked) = l.split_at(self.split_point(l));
         self.plain_valid(plain) && self.all_valid(marked)
     }
 }

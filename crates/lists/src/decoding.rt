@@ -80,7 +80,8 @@ impl Sparse {
         Ok((v, next))
     }
 
-    // What stands for the last value with the mark bit clear before there is one: no `Option`, since the loops that keep it have few registers.
+    // What stands for the last value with the mark bit clear before there is one. It is valid at every pair, so that the test at the end needs no case for it, as
+    // it would for an `Option`.
     pub fn no_plain(self) -> u32
         ensures { result ≡ no_plain self.normal_precision self.sparse_precision }
     {

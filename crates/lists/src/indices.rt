@@ -14,7 +14,7 @@ impl Sparse {
         requires { IndexPre self l.now }
         ensures { result ≡ distinct_indices self.normal_precision self.sparse_precision l.now }
     {
-        let m = merging::split_point(l, self.rho_encoded_flag);
+        let m = self.split_point(l);
         let mut i: usize = 0;
         let mut j = m;
         let mut twice: usize = 0;

@@ -1,19 +1,10 @@
 -- Of the low d bits, 32 bits have 32 - d leading zeros more than d bits have.
-use Rattle.lists.proofs.ValueLaws.{mask_pos, zeros32_low, zeros32_high, code_lowered_zero, code_lowered_bits}
+use Rattle.lists.proofs.ValueLaws.{zeros32_low, code_lowered_zero, code_lowered_bits}
 use Rattle.std.proofs.Common.{arith}
 use Rattle.lists.proofs.values.downgrade_rho_w.Goals as goal
 
-pub overflow_sub-low : goal.overflow_sub-low
-overflow_sub-low c = mask_pos c.args.d (omega arith)
-
-pub overflow_add-result : goal.overflow_add-result
-overflow_add-result c = omega (arith, zeros32_high c.args.index c.args.d (omega arith))
-
 pub overflow_sub-result : goal.overflow_sub-result
 overflow_sub-result c = zeros32_low c.args.index c.args.d (omega arith)
-
-pub overflow_cast-result : goal.overflow_cast-result
-overflow_cast-result c = omega (arith, zeros32_high c.args.index c.args.d (omega arith))
 
 pub returns-then-low-eq0 : goal.returns-then-low-eq0
 returns-then-low-eq0 c = code_lowered_zero c.args.index c.args.d (omega arith) c.args.rho_w c.if-low-eq0.true

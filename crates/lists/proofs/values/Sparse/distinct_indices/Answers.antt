@@ -1,12 +1,9 @@
-use Rattle.std.proofs.Common.{get_or, refl, inl, inr, arith, ◌∙◌}
+use Rattle.std.proofs.Common.{get_or, refl, inl, inr, ◌∙◌}
 use Rattle.lists.proofs.ValueLaws.{truth}
 use Rattle.lists.proofs.MergeLaws.{valid_at}
-use Rattle.lists.proofs.IndexLaws.{walk_start, walk_on, walk_less, walk_out}
+use Rattle.lists.proofs.IndexLaws.{walk_start, walk_on, walk_out}
 use Rattle.lists.proofs.values.Sparse.distinct_indices.Goals as goal
 use Rattle.lists.proofs.values.Sparse.distinct_indices.Goals.{else-loop-i-test, then-loop-i-test+else-j-l}
-
-pub split_point-m-requires : goal.split_point-m-requires
-split_point-m-requires c = c.requires.rises
 
 pub loop-i-init : goal.loop-i-init
 loop-i-init c =
@@ -17,11 +14,6 @@ pub decode_sparse_index-y-requires : goal.decode_sparse_index-y-requires
 decode_sparse_index-y-requires c =
     let a = c.args in
     valid_at a.self.normal_precision a.self.sparse_precision a.l.now c.loop-i.j c.loop-i.invariant.allowed c.if-j-l.true
-
-pub loop-i-smaller : goal.loop-i-smaller
-loop-i-smaller c =
-    let a = c.args in
-    omega (arith, walk_less a.self.normal_precision a.self.sparse_precision a.l.now c.split_point-m.result c.loop-i.i c.loop-i.j c.loop-i.twice c.loop-i.invariant (get_or a.l.now c.loop-i.i 0) c.decode_sparse_index-y.result c.from-twice.result c.from-i.result c.from-j.result c.loop-i-test.true c.if-j-l.true refl c.decode_sparse_index-y.ensures (c.from-twice.ensures ∙ truth _) (c.from-i.ensures ∙ truth _) (c.from-j.ensures ∙ truth _), c.loop-i-test.true, c.if-j-l.true, c.loop-i.invariant.right_in, c.loop-i.invariant.left_in)
 
 pub loop-i-preserved : goal.loop-i-preserved
 loop-i-preserved c =
