@@ -14,10 +14,10 @@ pub struct Memory<'a> {
     pub scratch: &'a mut [u32],
 }
 
-// The first k values of `values` go behind the first n of `list`.
-pub(crate) fn append(list: &mut [u32], n: usize, values: &[u32], k: usize)
-    requires { (k ≤ length values.now) × (n + k ≤ length list.old) }
-    ensures { take (n + k) list.new ≡ take n list.old ++ take k values.now }
+// The values go behind the first n of `list`.
+pub(crate) fn append(list: &mut [u32], n: usize, values: &[u32])
+    requires { n + length values.now ≤ length list.old }
+    ensures { take (n + length values.now) list.new ≡ take n list.old ++ values.now }
 {
-    list[n..n + k].copy_from_slice(&values[..k]);
+    list[n..n + values.len()].copy_from_slice(values);
 }

@@ -87,12 +87,12 @@ impl From<EncodeError> for Refusal {
     }
 }
 
-// The number of an answer, 0 for accepted.
-pub fn answer_of(r: Result<(), Refusal>) -> u8
+// The number of an answer, 0 for accepted or written.
+pub fn answer_of<T: Copy>(r: Result<T, Refusal>) -> u8
     ensures { result ≡ answer_of r }
 {
     match r {
-        Ok(()) => 0,
+        Ok(_) => 0,
         Err(e) => e.number(),
     }
 }

@@ -64,7 +64,7 @@ fn merge_back(
     ensures { MergePost enc.normal_precision enc.sparse_precision (take n sparse.old) incoming.now result sparse.new }
 {
     let r = enc.merge_dedupe_into(&sparse[..n], incoming, scratch);
-    append(sparse, 0, scratch, r.len);
+    append(sparse, 0, &scratch[..r.len]);
     r
 }
 
@@ -82,10 +82,10 @@ fn merge_all(
     requires { JoinPre enc sparse.old n pending.old w scratch.old k }
     ensures { MergePost enc.normal_precision enc.sparse_precision (take n sparse.old) (take w pending.old ++ take k scratch.old) result sparse.new }
 {
-    append(pending, w, scratch, k);
-    let all = w + k;
-    in_order(&mut pending[..all], w, scratch);
-    merge_back(enc, sparse, n, &pending[..all], scratch)
+    append(pending, w, &scratch[..k]);
+    let all = &mut pending[..w + k];
+    in_order(all, w, scratch);
+    merge_back(enc, sparse, n, all, scratch)
 }
 
 // ---- the paths. `self` has the mask and the count of what comes in already.
@@ -152,7 +152,8 @@ impl Accumulator {
         ensures same { SameLent memory.old memory.new }
     {
         let (pending, scratch) = (&mut *memory.pending, &mut *memory.scratch);
-        append(pending, self.pending_len, scratch, k);
+        let values = &scratch[..];
+        append(pending, self.pending_len, &values[..k]);
         Accumulator {
             pending_len: self.pending_len + k,
             ..self
@@ -214,7 +215,7 @@ impl Accumulator {
         ensures same { SameLent memory.old memory.new }
     {
         let h = self.counted(x);
-        if row.len() != 0 {
+        if !row.is_empty() {
             return h.densify_with(memory, row);
         }
         match path {
