@@ -17,7 +17,7 @@ use crate::{header, judging};
 use wire::view::StateView;
 
 // A head that fits its memory, and what is known of the list that is kept: `distinct` says that it is one that a merge can leave. An insertion need not walk such a
-// list first. New: the Rust inserts without looking (document 01, "Difference").
+// list first. New: the Rust inserts without looking (document 01, "Difference"). A bool, since an enum of two names would say no more than the field's name does.
 #[derive(Clone, Copy, Debug, PartialEq, Eq)]
 pub struct Fitted {
     pub head: Accumulator,
@@ -43,7 +43,7 @@ fn state_numbers(view: StateView, k: usize) -> Incoming
     }
 }
 
-// What is known of the list after a path, by the form before. All values of a merge are distinct; where there was none, the list is as it was. Of a first list
+// What is known of the list after a path, by the form before. All values of a merge are distinct, and without a merge as much is known as before. Of a first list
 // nothing is known.
 fn distinct_after(before: Form, path: Option<Path>, known: bool) -> bool
     ensures { result ≡ distinct_after before path known }
@@ -65,7 +65,7 @@ impl Accumulator {
     }
 }
 
-// Of a head that fits nothing more is known.
+// A head of which no more is known than that it fits.
 impl From<Accumulator> for Fitted {
     ghost from_gives = { λ a r. r ≡ record { head = a; distinct = false } };
 

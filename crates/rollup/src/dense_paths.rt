@@ -20,7 +20,7 @@ fn signed_min(x: u32, y: u32) -> u32
     x.cast_signed().min(y.cast_signed()).cast_unsigned()
 }
 
-// The roll-up's registers become those of the smaller precision, which is the answer.
+// Makes the roll-up's registers those of the smaller precision, which is the answer. Where that is its own already, they are not walked.
 fn lower_own(registers: &mut [u8], p: u32, other: u32) -> u32
     requires { LowerOwnPre p registers.old }
     ensures { LowerOwnPost p other registers.old result registers.new }

@@ -106,7 +106,7 @@ impl Accumulator {
             && registers_fit(self.precision, registers)
     }
 
-    // Of the memory what it reads, and not the whole `Memory`: `write` is lent two of the slices as `&`, as C lends them const.
+    // Whether a head of any form fits. It takes the slices that it reads and no `Memory`, since `write` has two of them as `&` only: C lends them const.
     #[tactic(auto, unfolding(crate::specs::Accumulator::fits))]
     pub fn fits(self, registers: &[u8], sparse: &[u32], pending: &[u32]) -> bool
         ensures { result ≡ headFits self (mem registers.now sparse.now pending.now) }

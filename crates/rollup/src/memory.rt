@@ -1,13 +1,13 @@
 // The memory that a roll-up is lent. New: the Rust's accumulator has `Vec`s of its own, and here there is no heap.
 ghost use Rattle.std.specs.Prelude.{◌≡◌, ◌+◌, ◌≤◌, ◌++◌, length, take};
 
-// Its slices may have any lengths: what a call needs more than is there it refuses (17). Where a part of one is lent beside another, both are taken out of it first, as
-// in `let (a, b) = (&mut *memory.sparse, &mut *memory.scratch);`: the borrow checker does not cover `f(memory.sparse, &memory.scratch[..k])`.
+// Its slices may have any lengths: a call that needs more than is there is refused (17). Where a part of one is lent beside another, both are taken out of the struct first, as
+// in `let (sparse, scratch) = (&mut *memory.sparse, &mut *memory.scratch);`: the borrow checker does not cover `f(memory.sparse, &memory.scratch[..k])`.
 #[derive(Drop)]
 pub struct Memory<'a> {
     // The registers, a byte each.
     pub registers: &'a mut [u8],
-    // The values that are kept, and those that wait. The head has how many there are.
+    // The values that are kept, and those that wait. The head says how many of each there are.
     pub sparse: &'a mut [u32],
     pub pending: &'a mut [u32],
     // Working memory, of which nothing is kept between two calls.

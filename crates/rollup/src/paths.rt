@@ -8,7 +8,7 @@ use crate::accumulator::{Accumulator, Form};
 use crate::fitting;
 use crate::incoming::Incoming;
 
-// How many values are inserted at most, and how many are kept at least for each of them: with more values, or fewer kept, a merge is the quicker way.
+// How many values are inserted at most, and how many are to be kept already for each of them.
 const MAX_INSERTED: usize = 16;
 
 const KEPT_FOR_EACH: usize = 16;

@@ -1,4 +1,4 @@
-// Document 01's refusals: the first question that was answered with no. Two of them carry an error of `wire` or `lists`, so that the numbers are a method's and no discriminants.
+// Document 01's refusals: the first question that was answered with no. Two of them carry an error of `wire` or `lists`, so the numbers come from a method and are no discriminants.
 ghost use Rattle.std.specs.Prelude.{◌≡◌};
 ghost use Rattle.rollup.specs.declared.refusal.Refusal.TheVariants.{Unread, BadList, OutputTooShort};
 ghost use Rattle.rollup.specs.Refusals.{number, answer_of};

@@ -42,7 +42,7 @@ pub fn set_lists(registers: &mut [u8], enc: Sparse, kept: &[u32], waiting: &[u32
 
 // ---- merging
 
-// A list in order. With nothing in front of what came in, it is so already.
+// Puts a list in order. Where none of its values waited before (w is 0), it is in order already.
 fn in_order(list: &mut [u32], w: usize, scratch: &mut [u32])
     requires { (length list.old ≤ length scratch.old) × (w ≡ 0 → ascends list.old ≡ true) }
     ensures { list.new ≡ sort_of list.old }
@@ -68,8 +68,9 @@ fn merge_back(
     r
 }
 
-// The first n values of `sparse`, merged with those that wait and those that come in. These go after those that wait first: `scratch` is the
-// spare of the sort, and takes the merge. It is lent slices and no `Memory`, so that parts of two can be lent at once.
+// The first n values of `sparse`, merged with the w that wait and the k that come in. First the latter go behind those that wait: `scratch` is the
+// spare of the sort, and takes the merge. Lists come whole and with their counts, since what is put behind the counted values needs the room; and as slices, not as a
+// `Memory`, so that parts of two can be lent at once.
 fn merge_all(
     enc: Sparse,
     sparse: &mut [u32],

@@ -1,4 +1,4 @@
-// Writing a roll-up. Ported from `Accumulator::serialize`, `flushed_union_bytes`, `current_sparse_size` and `view` in src/accumulator.rs of
+// Writing a roll-up. Ported from `Accumulator::serialize`, `flushed_union_bytes`, `current_sparse_size` and `view` (here `fields`) in src/accumulator.rs of
 // zetasketch-rs at commit 9abe68bf87 (Apache-2.0, see NOTICE). Changed: the output is lent and its length asked for before anything is written
 // (23), the values that wait are sorted in place and merged into lent memory (17), the list goes from there into the output without a copy
 // of its bytes, a list at the limit is refused (22), and a contract on every function.
@@ -78,7 +78,7 @@ impl Accumulator {
         Ok(total)
     }
 
-    // 17, and then the list: what is kept as it is where nothing waits, else all values as one list. Of the memory only the two lists count.
+    // 17, and then the list: what is kept as it is where nothing waits, else all values as one list. Registers are not looked at.
     fn write_list(
         self,
         sparse: &[u32],
@@ -119,7 +119,7 @@ impl Accumulator {
         Ok(view.encode(out)?)
     }
 
-    // ---- all of it. What is only read is lent as `&`, as C lends it const, and not as a whole `Memory`, which would ask more of callers.
+    // ---- all of it. `registers` and `sparse` are only read, and C lends them const. So the slices are lent one by one: a `Memory` would ask callers for `&mut`.
 
     // 21, 17, 22 and 23, of a head that fits, and then the state. The answer is how many bytes were written.
     pub fn write_fitting(
