@@ -13,6 +13,7 @@ pub enum ChainError {
 }
 
 impl ChainError {
+    // Document 01's number.
     pub fn number(self) -> u8
         ensures { result ≡ error_number self }
     {
@@ -38,11 +39,12 @@ pub struct Record<'a> {
     pub state: &'a [u8],
 }
 
-// The records of a batch that are still to come. After an error there is none.
+// The records of a batch that are still to come. After an error there is none. Both indices are as the batch has them, where 0 is no record's: with an `Option` for each,
+// every comparison would take it apart again.
 #[derive(Clone, Debug, Drop)]
 pub struct Records<'a> {
     batch: &'a [u8],
-    // The index of the record before, at first 0.
+    // The index of the record before, and 0 in front of the first.
     before: u32,
     // The index of the next one: 0 ends the chain.
     next: u32,

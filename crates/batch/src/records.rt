@@ -65,10 +65,7 @@ pub fn roll_up(batch: &[u8], memory: &mut Memory, answers: &mut [u8]) -> Rolled
     ensures rolled { RolledPost batch.now (mem_of memory.old) (length memory.old.scratch.now) result (mem_of memory.new) answers.old answers.new }
     ensures same { SameLent memory.old memory.new }
 {
-    let mut fitted = Fitted {
-        head: Accumulator::new(),
-        distinct: false,
-    };
+    let mut fitted = Fitted::from(Accumulator::new());
     let mut records = 0;
     let ending = add_records(batch, &mut fitted, memory, answers, &mut records);
     Rolled {

@@ -1,5 +1,5 @@
 // The functions that `capi_c` exports. A caller lends all memory; slices must not overlap. An answer is document 01's number: 0, or the first question that was
-// answered with no. The slices stay apart, and the head is a row of numbers, as C hands them over.
+// answered with no. C has no `Result`, no enums with data and no structs of slices: so answers are numbers, the slices stay apart, and the head is a row of numbers.
 ghost use Rattle.std.specs.Prelude.{◌≡◌, length, set};
 ghost use Rattle.rollup.specs.Accumulator.{mem};
 ghost use Rattle.capi.specs.Calls.{AddRowPost, WriteRowPost, FreshPost};
@@ -7,6 +7,7 @@ ghost use Rattle.capi.specs.Folds.{FoldRowPost};
 
 use crate::{folding, heads};
 use rollup::accumulator::Accumulator;
+use rollup::refusal;
 
 // Puts a fresh head into the row; 1 where it has no ten cells.
 pub fn filmoed_fresh(head: &mut [u64]) -> u8
@@ -66,10 +67,7 @@ pub fn filmoed_write(
     };
     let written = a.write(registers, sparse, pending, scratch, out);
     put_first(len, written.unwrap_or(0) as u64);
-    match written {
-        Ok(_) => 0,
-        Err(e) => e.number(),
-    }
+    refusal::answer_of(written)
 }
 
 // The answer to a fold whose ends do not fit: one is before the last one or past the bytes, or has no cell for its answer. The papers' numbers end before 100.
@@ -95,13 +93,11 @@ pub fn filmoed_fold(
     let Some(mut a) = heads::read_head(head) else {
         return 1;
     };
-    match folding::fold(
+    if let Err(e) = folding::fold(
         &mut a, registers, sparse, pending, scratch, states, ends, answers,
     ) {
-        Ok(()) => {
-            heads::put_head(head, a);
-            0
-        }
-        Err(e) => e.number(),
+        return e.number();
     }
+    heads::put_head(head, a);
+    0
 }

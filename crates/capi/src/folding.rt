@@ -46,10 +46,7 @@ fn fold_states(
     ensures folded { FoldedPost a (mem_of memory.old) (length memory.old.scratch.now) bytes.now ends.now answers.old result (mem_of memory.new) answers.new }
     ensures same { SameLent memory.old memory.new }
 {
-    let mut fitted = Fitted {
-        head: a,
-        distinct: false,
-    };
+    let mut fitted = Fitted::from(a);
     let mut start = 0;
     for (i, &end) in ends.iter().enumerate() {
         let end = end as usize;

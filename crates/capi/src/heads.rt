@@ -4,7 +4,7 @@ ghost use Rattle.capi.specs.Heads.{read_form, read_head, with_head};
 
 use rollup::accumulator::{Accumulator, Form};
 
-// The form of a number, if it is one: that of `form as u64`.
+// The form that a number stands for, if it is one: that of `form as u64`, which has no conversion back.
 fn read_form(n: u64) -> Option<Form>
     ensures { result ≡ read_form n }
 {

@@ -2,5 +2,5 @@
 #![tactic(auto)]
 
 pub mod calls;
-pub mod folding;
+mod folding;
 pub mod heads;

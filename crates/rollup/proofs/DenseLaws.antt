@@ -28,10 +28,10 @@ module _ (p other : ℕ) (registers : List ℕ) (pre : LowerOwnPre p registers) 
   abbrev lowered_to : ℕ → List ℕ
   lowered_to q = with_registers p (lowered_in_place p q (registers_of p registers)) registers
 
-  pub own_kept : p ≤ other → LowerOwnPost p other registers p registers
-  own_kept h =
-      let e : p ≡ min p other = omega arith in
-      record { smaller = e; left = sym (own_same p registers pre.room) ∙ ap lowered_to e }
+  pub own_kept : {q : ℕ} → q ≡ min p other → p ≤ q → LowerOwnPost p other registers q registers
+  own_kept e h =
+      let f : p ≡ min p other = omega (arith, e) in
+      record { smaller = e; left = sym (own_same p registers pre.room) ∙ ap lowered_to f }
 
 -- ---- a row
 

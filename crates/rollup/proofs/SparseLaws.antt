@@ -1,5 +1,5 @@
 -- The paths of a list roll-up: what the calls of each function leave is what the definitions have.
-use Rattle.std.proofs.Common.{◌≡◌, ℕ, ◌+◌, ◌-◌, ◌^◌, ◌<◌, ◌≤◌, Bool, true, cond, ◌⊎◌, List, [], ◌++◌, length, take, sym, refl, ap, ◌∙◌, subst, ap₂, ⊎_elim, pos_of_ne-zero, arith, length-append, length-take, length-take-le, take_at, le-ltb, lt-ltb, eq-eqb, ne_eqb, Option, Some, None}
+use Rattle.std.proofs.Common.{◌≡◌, ℕ, ◌+◌, ◌-◌, ◌^◌, ◌<◌, ◌≤◌, Bool, true, cond, ◌⊎◌, List, [], ◌++◌, length, take, sym, refl, ap, ◌∙◌, subst, ap₂, ⊎_elim, pos_of_ne-zero, arith, length-append, length-take, length-take-le, le-ltb, lt-ltb, eq-eqb, ne_eqb, Option, Some, None}
 use mathlib.Core.List.Permᴰ
 use mathlib.Core.List.{Permᴰ}
 use native.Mathlib.Nat.{min-le_left}
@@ -133,6 +133,10 @@ module _ (h : Accumulator) (registers l : List ℕ) (bytes : ℕ) where
 
 -- ---- merges
 
+-- What stands behind the first n is counted by the values that were put there.
+pub appended : (n : ℕ) {k : ℕ} (values list : List ℕ) {l : List ℕ} → k ≤ length values → take (n + length (take k values)) list ≡ l → take (n + k) list ≡ l
+appended n {k} values list h e = ap (λ (j : ℕ). take (n + j) list) (sym (length-take-le k values h)) ∙ e
+
 module _ (p s : ℕ) where
   merged_sort : (a b : List ℕ) → merged p s a (sort_of b) ≡ merged p s a b
   merged_sort a b = merged_perm p s a (sort_of b) a b (Permᴰ.append_left a (perm_sort b))
@@ -141,31 +145,27 @@ module _ (p s : ℕ) where
   merge_post a b c r after e m =
       record { count = m.count ∙ ap length e; bytes = m.bytes ∙ ap written e; values = m.values ∙ e }
 
--- Values that were put in order, in place, and the merge of them and of those kept.
-module _ (vs ordered tail : List ℕ) (n : ℕ) (long : length vs ≡ n) (e : ordered ≡ sort_of vs) where
-  pub sorted_front : take n (ordered ++ tail) ≡ sort_of vs
-  sorted_front = take_at ordered tail n (ap length e ∙ length_sort vs ∙ long) ∙ e
+-- Values that were put in order, and the merge of them and of those kept.
+module _ (enc : Encoding) (vs : List ℕ) {ordered : List ℕ} (e : ordered ≡ sort_of vs) {kept : List ℕ} where
+  pub sorted_merge : {spare : List ℕ} → ascends kept ≡ true → all_valid enc.normal_precision enc.sparse_precision kept ≡ true
+      → all_valid enc.normal_precision enc.sparse_precision vs ≡ true → length kept + length vs ≤ length spare → MergePre enc kept ordered spare
+  sorted_merge {spare} order ok new room =
+      let p = enc.normal_precision in
+      let s = enc.sparse_precision in
+      record {
+        left_order = order;
+        left_valid = ok;
+        right_order = ap ascends e ∙ ascends_sort vs;
+        right_valid = ap (all_valid p s) e ∙ valid_sort p s vs new;
+        room = omega (arith, room, ap length e, length_sort vs);
+      }
 
-  module _ (enc : Encoding) (kept : List ℕ) where
-    pub sorted_merge : (spare : List ℕ) → ascends kept ≡ true → all_valid enc.normal_precision enc.sparse_precision kept ≡ true
-        → all_valid enc.normal_precision enc.sparse_precision vs ≡ true → length kept + n ≤ length spare → MergePre enc kept (take n (ordered ++ tail)) spare
-    sorted_merge spare order ok new room =
-        let p = enc.normal_precision in
-        let s = enc.sparse_precision in
-        record {
-          left_order = order;
-          left_valid = ok;
-          right_order = ap ascends sorted_front ∙ ascends_sort vs;
-          right_valid = ap (all_valid p s) sorted_front ∙ valid_sort p s vs new;
-          room = omega (arith, room, ap length sorted_front, length_sort vs, long);
-        }
-
-    pub sorted_post : (r : Merged) (after : List ℕ) → MergePost enc.normal_precision enc.sparse_precision kept (take n (ordered ++ tail)) r after
-        → MergePost enc.normal_precision enc.sparse_precision kept vs r after
-    sorted_post r after m =
-        let p = enc.normal_precision in
-        let s = enc.sparse_precision in
-        merge_post p s kept (take n (ordered ++ tail)) vs r after (ap (merged p s kept) sorted_front ∙ merged_sort p s kept vs) m
+  pub sorted_post : {r : Merged} {after : List ℕ} → MergePost enc.normal_precision enc.sparse_precision kept ordered r after
+      → MergePost enc.normal_precision enc.sparse_precision kept vs r after
+  sorted_post {r} {after} m =
+      let p = enc.normal_precision in
+      let s = enc.sparse_precision in
+      merge_post p s kept ordered vs r after (ap (merged p s kept) e ∙ merged_sort p s kept vs) m
 
 module _ {enc : Encoding} {sparse : List ℕ} {n : ℕ} {incoming scratch : List ℕ} (pre : BackPre enc sparse n incoming scratch) {r : Merged} {after : List ℕ}
     (post : MergePost enc.normal_precision enc.sparse_precision (take n sparse) incoming r after) where
@@ -189,42 +189,38 @@ module _ {enc : Encoding} {sparse : List ℕ} {n : ℕ} {incoming scratch : List
 
 module _ {enc : Encoding} {sparse : List ℕ} {n : ℕ} {pending : List ℕ} {w : ℕ} {scratch : List ℕ} {k : ℕ} (pre : JoinPre enc sparse n pending w scratch k) where
   -- The values that come in were copied after those that wait.
-  module _ (first : List ℕ) (f : take (w + k) first ≡ take w pending ++ take k scratch) where
-    pub joined_length : length (take (w + k) first) ≡ w + k
-    joined_length =
-        ap length f
-        ∙ length-append (take w pending) (take k scratch)
-        ∙ ap₂ (λ (x y : ℕ). x + y) (length-take-le w pending (let h : w ≤ length pending = omega (arith, pre.in_pending) in h))
-        (length-take-le k scratch (let h : k ≤ length scratch = omega (arith, pre.in_scratch) in h))
+  abbrev both : List ℕ
+  both = take w pending ++ take k scratch
 
+  both_length : length both ≡ w + k
+  both_length =
+      length-append (take w pending) (take k scratch)
+      ∙ ap₂ (λ (x y : ℕ). x + y) (length-take-le w pending (let h : w ≤ length pending = omega (arith, pre.in_pending) in h))
+      (length-take-le k scratch (let h : k ≤ length scratch = omega (arith, pre.in_scratch) in h))
+
+  module _ (first : List ℕ) (f : take (w + length (take k scratch)) first ≡ both) where
     -- They were put in order, in place.
-    module _ {ordered : List ℕ} (tail : List ℕ) (g : ordered ≡ sort_of (take (w + k) first)) where
-      abbrev both : List ℕ
-      both = take w pending ++ take k scratch
-
-      both_length : length both ≡ w + k
-      both_length = ap length (sym f) ∙ joined_length
-
+    module _ {ordered : List ℕ} (g : ordered ≡ sort_of (take (w + k) first)) where
       in_order : ordered ≡ sort_of both
-      in_order = g ∙ ap sort_of f
+      in_order = g ∙ ap sort_of (appended w scratch first (let h : k ≤ length scratch = omega (arith, pre.in_scratch) in h) f)
 
-      pub joined_back : {spare : List ℕ} → length spare ≡ length scratch → BackPre enc sparse n (take (w + k) (ordered ++ tail)) spare
+      pub joined_back : {spare : List ℕ} → length spare ≡ length scratch → BackPre enc sparse n ordered spare
       joined_back {spare} same =
           let p = enc.normal_precision in
           let s = enc.sparse_precision in
           let kept_length = length-take-le n sparse (let h : n ≤ length sparse = omega (arith, pre.in_sparse) in h) in
           record {
             merge =
-                sorted_merge both ordered tail (w + k) both_length in_order enc (take n sparse) spare pre.order pre.kept_valid
+                sorted_merge enc both in_order pre.order pre.kept_valid
                 (valid_append p s (take w pending) (take k scratch) pre.waiting_valid pre.incoming_valid)
-                (omega (arith, pre.in_scratch, pre.in_sparse, same, kept_length));
-            room = omega (arith, pre.in_sparse, ap length (sorted_front both ordered tail (w + k) both_length in_order), length_sort both, both_length);
+                (omega (arith, pre.in_scratch, pre.in_sparse, same, kept_length, both_length));
+            room = omega (arith, pre.in_sparse, ap length in_order, length_sort both, both_length);
           }
 
       pub joined_post : {r : Merged} {after : List ℕ}
-          → MergePost enc.normal_precision enc.sparse_precision (take n sparse) (take (w + k) (ordered ++ tail)) r after
+          → MergePost enc.normal_precision enc.sparse_precision (take n sparse) ordered r after
           → MergePost enc.normal_precision enc.sparse_precision (take n sparse) both r after
-      joined_post = sorted_post both ordered tail (w + k) both_length in_order enc (take n sparse) _ _
+      joined_post = sorted_post enc both in_order
 
 -- ---- all values as one list
 
@@ -350,7 +346,7 @@ module _ {h : Accumulator} {registers sparse scratch : List ℕ} {k : ℕ} (pre 
 
 -- They wait.
 module _ (h : Accumulator) (registers sparse pending scratch : List ℕ) (k : ℕ) (form : h.form ≡ Sparse) (inside : k ≤ length scratch) where
-  pub waiting_shows : {after : List ℕ} → take (h.pending_len + k) after ≡ take h.pending_len pending ++ take k scratch
+  pub waiting_shows : {after : List ℕ} → take (h.pending_len + length (take k scratch)) after ≡ take h.pending_len pending ++ take k scratch
       → Shows (as_waiting h (mem registers sparse pending) (take k scratch)) (record h { pending_len = h.pending_len + k }) (mem registers sparse after)
   waiting_shows {after} e =
       record {
@@ -359,7 +355,7 @@ module _ (h : Accumulator) (registers sparse pending scratch : List ℕ) (k : �
             ∙ ap (λ (n : ℕ). with_list h h.sparse_size h.sparse_len h.sparse_bytes (h.pending_len + n)) (sym (length-take-le k scratch inside));
         registers = refl;
         kept = refl;
-        waiting = subst (λ (l : List ℕ). Permᴰ l (take h.pending_len pending ++ take k scratch)) (sym e) (Permᴰ.refl _);
+        waiting = subst (λ (l : List ℕ). Permᴰ l (take h.pending_len pending ++ take k scratch)) (sym (appended h.pending_len scratch after inside e)) (Permᴰ.refl _);
       }
 
 -- All are registers.

@@ -25,7 +25,7 @@ module _ {registers sparse scratch : List ℕ} {x : Incoming} {row : List ℕ} {
     abbrev before : Mem
     before = mem registers sparse pending
 
-    pub start_list_lem : {r : Accumulator} {left : List ℕ} → length row ≡ 0 → take (0 + k) left ≡ take 0 sparse ++ vs
+    pub start_list_lem : {r : Accumulator} {left : List ℕ} → length row ≡ 0 → take (0 + length vs) left ≡ take 0 sparse ++ vs
         → r ≡ list_head x.mask x.value_type x.num_values x.precision x.sparse_precision x.sparse_size k x.list_bytes 0
         → Shows (start_after before x row vs) r (mem registers left pending)
     unfolding start_after
@@ -38,7 +38,7 @@ module _ {registers sparse scratch : List ℕ} {x : Incoming} {row : List ℕ} {
               ∙ ap (λ (n : ℕ). list_head x.mask x.value_type x.num_values x.precision x.sparse_precision x.sparse_size n x.list_bytes 0)
               (sym (length-take-le k scratch pre.inside));
           registers = refl;
-          kept = ap (λ (y : Accumulator). take y.sparse_len left) head ∙ ap (λ (n : ℕ). take n left) (sym (zero-add k)) ∙ copied;
+          kept = ap (λ (y : Accumulator). take y.sparse_len left) head ∙ ap (λ (n : ℕ). take n left) (sym (length-take-le k scratch pre.inside) ∙ sym (zero-add (length vs))) ∙ copied;
           waiting = subst (λ (l : List ℕ). Permᴰ l []) (sym (ap (λ (y : Accumulator). take y.pending_len pending) head)) Permᴰ.nil;
         })
 

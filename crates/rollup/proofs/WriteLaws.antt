@@ -9,11 +9,9 @@ use borrow.Rule.Slice.PartMut.{mid_of, post_of, put_mid}
 use borrow.Author.Tests.{lt-leb}
 use Rattle.wire.specs.Varints.{PutPost}
 use Rattle.wire.specs.declared.state.Fields.{Fields}
-use Rattle.wire.specs.declared.view.StateView.{StateView}
 use Rattle.wire.specs.declared.encoding.EncodeError.{EncodeError}
 use Rattle.wire.specs.declared.encoding.EncodeError.TheVariants.{OutputTooShort}
 use Rattle.wire.specs.State.{State, state_of}
-use Rattle.rollup.specs.Header.{viewed}
 use Rattle.wire.specs.Encoding.{encoded_number, encoded_length, head_of, hll_head, encode_of, Output, encode_step, EncodePost}
 use Rattle.wire.proofs.VarintLaws.{side}
 use Rattle.wire.proofs.EncodingLaws.{head_any, head_tail, head_length, hll_head_le, outer_numbers_le, prefix_le, encode_yes, encode_no}
@@ -21,10 +19,9 @@ use Rattle.lists.specs.declared.values.Sparse.{Sparse as Encoding}
 use Rattle.lists.specs.declared.merging.Merged.{Merged}
 use Rattle.lists.specs.Pairs.{NewPost}
 use Rattle.lists.specs.Sorting.{ascends, sort_of}
-use Rattle.lists.specs.Lists.{all_valid, written, encode_list, merged, distinct_slots, distinct_indices, IndexPre, MergePost}
-use Rattle.lists.specs.Merging.{MergePre}
+use Rattle.lists.specs.Lists.{all_valid, written, encode_list, merged, distinct_slots, distinct_indices, IndexPre}
 use Rattle.lists.specs.Registers.{register_bytes, registers_of}
-use Rattle.lists.proofs.OrderLaws.{perm_sort}
+use Rattle.lists.proofs.OrderLaws.{length_sort, perm_sort}
 use Rattle.lists.proofs.MergeLaws.{merged_ascends, merged_distinct, merged_valid, length_merged, length_encode}
 use Rattle.lists.proofs.IndexLaws.{distinct_merged, distinct_le}
 use Rattle.lists.proofs.RegisterLaws.{registers_are}
@@ -33,9 +30,9 @@ use Rattle.rollup.specs.declared.accumulator.Form.TheVariants.{Unstarted, Sparse
 use Rattle.rollup.specs.declared.accumulator.Accumulator.{Accumulator}
 use Rattle.rollup.specs.Accumulator.{Mem, mem, kept_of, waiting_of, limit, fits, is_started}
 use Rattle.rollup.specs.Writing.{flushed, current_size, state_with, state_form, below_limit, unless, write_outcome, WritePost}
-use Rattle.rollup.specs.WritingPaths.{Writes, written_fields, list_outcome, ValuesPre, FlushPre, FlushPost}
+use Rattle.rollup.specs.WritingPaths.{Writes, head_fields, with_data, with_sparse_data, list_outcome, ValuesPre, FlushPre, FlushPost}
 use Rattle.rollup.proofs.FitLaws.{FitSparse, fits_form_lem, fit_sparse, fit_dense, limit_small, counts_short}
-use Rattle.rollup.proofs.SparseLaws.{at_pair, of_pair, sorted_front, sorted_merge, sorted_post}
+use Rattle.rollup.proofs.SparseLaws.{at_pair, of_pair}
 
 -- ---- a question that is answered with yes, and one with no
 
@@ -100,20 +97,17 @@ module _ (a : Accumulator) (size : ℕ) (l : List ℕ) (bytes : ℕ) (pre : Valu
     to_encode space =
         go 22 (lt-ltb (written l) (limit a.precision) (let g : written l < limit a.precision = omega (arith, pre.count) in g))
 
-    module _ (v : StateView) (b : v.bytes.now ≡ []) (e : v.fields ≡ written_fields a size false 0 bytes) where
-      view_is : viewed v ≡ state_of [] (written_fields a size false 0 bytes)
-      view_is = ap₂ state_of b e
-
-      list_len : v.fields.hll.sparse_data.len ≡ bytes
+    module _ (f : Fields) (e : f ≡ with_sparse_data (head_fields a size) bytes) where
+      list_len : f.hll.sparse_data.len ≡ bytes
       list_len = ap (λ (x : Fields). x.hll.sparse_data.len) e
 
       abbrev head : List ℕ
-      head = head_of (viewed v) v.fields.hll.sparse_data.len
+      head = head_of (state_of [] f) f.hll.sparse_data.len
 
       head_view : head ≡ head_of list_state bytes
       head_view =
-          ap₂ head_of view_is list_len
-          ∙ head_any (state_of [] (written_fields a size false 0 bytes)) (some (encode_list l)) bytes
+          ap₂ head_of (ap (state_of []) e) list_len
+          ∙ head_any (state_of [] (with_sparse_data (head_fields a size) bytes)) (some (encode_list l)) bytes
 
       whole : encode_of list_state ≡ head ++ encode_list l
       whole =
@@ -173,24 +167,24 @@ module _ (a : Accumulator) (registers out : List ℕ) where
   abbrev dense_state : State
   dense_state = state_with a a.sparse_size (some (registers_of a.precision registers)) none
 
-  module _ (v : StateView) (b : v.bytes.now ≡ registers) (n : ℕ) (e : n ≡ register_bytes a.precision) (g : v.fields ≡ written_fields a a.sparse_size true n 0) where
+  module _ (f : Fields) (n : ℕ) (e : n ≡ register_bytes a.precision) (g : f ≡ with_data (head_fields a a.sparse_size) n) where
     -- The data field is the register bytes.
-    dense_view : viewed v ≡ dense_state
+    dense_view : state_of registers f ≡ dense_state
     dense_view =
-        ap₂ state_of b g
+        ap (state_of registers) g
         ∙ ap (λ (k : ℕ). state_with a a.sparse_size (some (take k registers)) none) e
         ∙ ap (λ (d : List ℕ). state_with a a.sparse_size (some d) none) (sym (registers_are a.precision registers))
 
-    module _ (r : Result ℕ EncodeError) (after : List ℕ) (p : EncodePost (viewed v) out r after) where
+    module _ (r : Result ℕ EncodeError) (after : List ℕ) (p : EncodePost (state_of registers f) out r after) where
       encoded : Writes (encode_step dense_state (length out)) out (encoded_number r) (encoded_length r) after
       encoded =
           let q = subst (λ (st : State). EncodePost st out r after) dense_view p in
           record { answered = q.answer; counted = q.written; output = q.output }
 
-    pub dense_23 : (k : EncodeError) (after : List ℕ) → EncodePost (viewed v) out (Err k) after → Writes (encode_step dense_state (length out)) out 23 0 after
+    pub dense_23 : (k : EncodeError) (after : List ℕ) → EncodePost (state_of registers f) out (Err k) after → Writes (encode_step dense_state (length out)) out 23 0 after
     dense_23 OutputTooShort after p = encoded (Err OutputTooShort) after p
 
-    pub dense_put : (j : ℕ) (after : List ℕ) → EncodePost (viewed v) out (Ok j) after → Writes (encode_step dense_state (length out)) out 0 j after
+    pub dense_put : (j : ℕ) (after : List ℕ) → EncodePost (state_of registers f) out (Ok j) after → Writes (encode_step dense_state (length out)) out 0 j after
     dense_put j after p = encoded (Ok j) after p
 
 -- ---- what is kept and what waits, as one list
@@ -311,6 +305,9 @@ module _ (a : Accumulator) (sparse pending : List ℕ) (form : a.form ≡ Sparse
   kept_length : length (take a.sparse_len sparse) ≡ a.sparse_len
   kept_length = length-take-le a.sparse_len sparse list_fit.kept_in
 
+  waiting_length : length (take a.pending_len pending) ≡ a.pending_len
+  waiting_length = length-take-le a.pending_len pending list_fit.waiting_in
+
   module _ (room : ℕ) (out : List ℕ) where
     pub list_17 : room < a.sparse_len + a.pending_len → (registers : List ℕ)
         → WritePost a (mem registers sparse pending) room out 17 0 (mem registers sparse pending) out
@@ -342,18 +339,17 @@ module _ (a : Accumulator) (sparse pending : List ℕ) (form : a.form ≡ Sparse
 
       -- Values wait.
       module _ (enc : Encoding) (new : NewPost a.precision a.sparse_precision enc) where
-        pub flush_pre : (scratch : List ℕ) → length scratch ≡ room → FlushPre enc (take a.sparse_len sparse) pending a.pending_len scratch
+        pub flush_pre : (scratch : List ℕ) → length scratch ≡ room → FlushPre enc (take a.sparse_len sparse) (take a.pending_len pending) scratch
         flush_pre scratch e =
             record {
               order = list_fit.order;
               kept_valid = of_pair new (λ (p s : ℕ). all_valid p s (take a.sparse_len sparse) ≡ true) list_fit.kept_valid;
               waiting_valid = of_pair new (λ (p s : ℕ). all_valid p s (take a.pending_len pending) ≡ true) list_fit.waiting_valid;
-              inside = list_fit.waiting_in;
-              room = omega (arith, kept_length);
+              room = omega (arith, kept_length, waiting_length);
             }
 
-        module _ (u : Merged) (left scratch : List ℕ)
-            (x : FlushPost enc.normal_precision enc.sparse_precision (take a.sparse_len sparse) pending a.pending_len u left scratch) where
+        module _ (u : Merged) (ordered scratch : List ℕ)
+            (x : FlushPost enc.normal_precision enc.sparse_precision (take a.sparse_len sparse) (take a.pending_len pending) u ordered scratch) where
           abbrev kept : List ℕ
           kept = take a.sparse_len sparse
 
@@ -367,7 +363,7 @@ module _ (a : Accumulator) (sparse pending : List ℕ) (form : a.form ≡ Sparse
                 x.merge.count,
                 length_merged enc.normal_precision enc.sparse_precision kept waiting,
                 kept_length,
-                length-take-le a.pending_len pending list_fit.waiting_in,
+                waiting_length,
               )
 
           pub index_pre : IndexPre enc (take u.len scratch)
@@ -404,37 +400,21 @@ module _ (a : Accumulator) (sparse pending : List ℕ) (form : a.form ≡ Sparse
               }
 
           pub flushed_post : (a.pending_len ≡ 0 → ⊥) → (k : ℕ) → k ≡ distinct_indices enc.normal_precision enc.sparse_precision (take u.len scratch)
-              → length left ≡ length pending → (answer len : ℕ) (after : List ℕ) → Writes (list_outcome a k (take u.len scratch) (length out)) out answer len after
-              → (registers : List ℕ) → WritePost a (mem registers sparse pending) room out answer len (mem registers sparse left) after
-          flushed_post n k e g answer len after w registers =
+              → (answer len : ℕ) (after : List ℕ) → Writes (list_outcome a k (take u.len scratch) (length out)) out answer len after
+              → (registers : List ℕ) → WritePost a (mem registers sparse pending) room out answer len (mem registers sparse (ordered ++ drop a.pending_len pending)) after
+          flushed_post n k e answer len after w registers =
               let p = a.precision in
               let s = a.sparse_precision in
               let m = mem registers sparse pending in
               let list : take u.len scratch ≡ merged p s kept waiting = at_pair new (λ (p s : ℕ). take u.len scratch ≡ merged p s kept waiting) x.merge.values in
+              let tail = drop a.pending_len pending in
+              let front : take a.pending_len (ordered ++ tail) ≡ sort_of waiting =
+              take_at ordered tail a.pending_len (ap length x.ordered ∙ length_sort waiting ∙ waiting_length) ∙ x.ordered in
               let size : k ≡ distinct_indices p s (take u.len scratch) = at_pair new (λ (p s : ℕ). k ≡ distinct_indices p s (take u.len scratch)) e in
               listed_post registers k (take u.len scratch) (size_some a m n ∙ ap (distinct_indices p s) (sym list) ∙ sym size)
-              (flushed_some a m n ∙ sym list) answer len left after w
-              (subst (λ (l : List ℕ). Permᴰ l waiting) (sym x.waiting) (perm_sort waiting)) g
-
--- ---- sorting what waits, and the merge
-
-module _ (enc : Encoding) (kept pending : List ℕ) (w : ℕ) (scratch : List ℕ) (pre : FlushPre enc kept pending w scratch) where
-  pub waiting_length : length (take w pending) ≡ w
-  waiting_length = length-take-le w pending pre.inside
-
-  -- They were put in order, in place.
-  module _ (ordered tail : List ℕ) (e : ordered ≡ sort_of (take w pending)) where
-    pub ordered_front : take w (ordered ++ tail) ≡ sort_of (take w pending)
-    ordered_front = sorted_front (take w pending) ordered tail w waiting_length e
-
-    pub flush_merge : (spare : List ℕ) → length spare ≡ length scratch → MergePre enc kept (take w (ordered ++ tail)) spare
-    flush_merge spare same =
-        sorted_merge (take w pending) ordered tail w waiting_length e enc kept spare pre.order pre.kept_valid pre.waiting_valid
-        (omega (arith, pre.room, same))
-
-    pub flush_post : (r : Merged) (after : List ℕ) → MergePost enc.normal_precision enc.sparse_precision kept (take w (ordered ++ tail)) r after
-        → FlushPost enc.normal_precision enc.sparse_precision kept pending w r (ordered ++ tail) after
-    flush_post r after m = record { merge = sorted_post (take w pending) ordered tail w waiting_length e enc kept r after m; waiting = ordered_front }
+              (flushed_some a m n ∙ sym list) answer len (ordered ++ tail) after w
+              (subst (λ (l : List ℕ). Permᴰ l waiting) (sym front) (perm_sort waiting))
+              (omega (arith, length-append ordered tail, length-drop a.pending_len pending, ap length x.ordered, length_sort waiting, waiting_length, list_fit.waiting_in))
 
 -- ---- what is known where a state was written
 

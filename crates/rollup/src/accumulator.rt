@@ -11,6 +11,12 @@ use lists::values::Sparse;
 // How many values wait at most.
 pub(crate) const MAX_PENDING: usize = 2048;
 
+// How many bytes a value takes at most where a list is written.
+pub(crate) const MAX_VALUE_BYTES: usize = 5;
+
+// How many bytes a state has at most, and so a list.
+pub(crate) const MAX_STATE_BYTES: usize = 2147483647;
+
 #[derive(Clone, Copy, Debug, Default, PartialEq, Eq)]
 pub enum Form {
     #[default]

@@ -1,6 +1,6 @@
 // Adding a state. Ported from `Accumulator::add_view` in src/accumulator.rs of zetasketch-rs at commit 9abe68bf87 (Apache-2.0, see NOTICE). Changed:
 // every question is asked before anything but `scratch` is written, a refusal has document 01's number, and the memory is lent.
-ghost use Rattle.std.specs.Prelude.{◌≡◌, ◌≤◌, length, take};
+ghost use Rattle.std.specs.Prelude.{◌≡◌, ◌≤◌, false, length, take};
 ghost use Rattle.rollup.specs.Header.{viewed, list_of};
 ghost use Rattle.rollup.specs.Refusals.{answer_of};
 ghost use Rattle.rollup.specs.Accumulator.{kept_of};
@@ -8,7 +8,7 @@ ghost use Rattle.rollup.specs.Lent.{mem_of, SameLent};
 ghost use Rattle.rollup.specs.Adding.{numbers_of, AddPost};
 ghost use Rattle.rollup.specs.Stages.{AcceptPre, distinct_after, Sound, AcceptPost, FittingPost};
 
-use crate::accumulator::{Accumulator, Form, MAX_PENDING};
+use crate::accumulator::{Accumulator, Form, MAX_PENDING, MAX_VALUE_BYTES};
 use crate::incoming::Incoming;
 use crate::memory::Memory;
 use crate::paths::Path;
@@ -17,7 +17,7 @@ use crate::{header, judging};
 use wire::view::StateView;
 
 // A head that fits its memory, and what is known of the list that is kept: `distinct` says that it is one that a merge can leave. An insertion need not walk such a
-// list first. New: the Rust inserts without looking (document 01, "Difference").
+// list first. New: the Rust inserts without looking (document 01, "Difference"). A bool, since an enum of two names would say no more than the field's name does.
 #[derive(Clone, Copy, Debug, PartialEq, Eq)]
 pub struct Fitted {
     pub head: Accumulator,
@@ -38,12 +38,12 @@ fn state_numbers(view: StateView, k: usize) -> Incoming
         sparse_precision: fields.hll.sparse_precision,
         sparse_size: fields.hll.sparse_size,
         list_bytes: view.sparse_data().len(),
-        growth: 5 * k,
+        growth: MAX_VALUE_BYTES * k,
         most: MAX_PENDING,
     }
 }
 
-// What is known of the list after a path, by the form before. All values of a merge are distinct; where there was none, the list is as it was. Of a first list
+// What is known of the list after a path, by the form before. All values of a merge are distinct, and without a merge as much is known as before. Of a first list
 // nothing is known.
 fn distinct_after(before: Form, path: Option<Path>, known: bool) -> bool
     ensures { result ≡ distinct_after before path known }
@@ -65,6 +65,18 @@ impl Accumulator {
     }
 }
 
+// A head of which no more is known than that it fits.
+impl From<Accumulator> for Fitted {
+    ghost from_gives = { λ a r. r ≡ record { head = a; distinct = false } };
+
+    fn from(head: Accumulator) -> Fitted {
+        Fitted {
+            head,
+            distinct: false,
+        }
+    }
+}
+
 impl Fitted {
     // A state that is accepted takes its path. The first k cells of `scratch` hold the values of its list.
     fn accept(self, view: StateView, memory: &mut Memory, k: usize) -> Fitted
@@ -76,8 +88,8 @@ impl Fitted {
         let x = state_numbers(view, k);
         let path = a.path_of(x, a.kept(memory), k, self.distinct);
         Fitted {
-            head: a.take(x, path, memory, view.data(), k),
             distinct: distinct_after(a.form, path, self.distinct),
+            head: a.take(x, path, memory, view.data(), k),
         }
     }
 
@@ -106,10 +118,7 @@ impl Accumulator {
         if !self.fits_in(memory) {
             return Err(Refusal::Misfit);
         }
-        let mut fitted = Fitted {
-            head: *self,
-            distinct: false,
-        };
+        let mut fitted = Fitted::from(*self);
         let answer = fitted.add(memory, bytes);
         *self = fitted.head;
         answer

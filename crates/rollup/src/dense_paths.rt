@@ -20,16 +20,16 @@ fn signed_min(x: u32, y: u32) -> u32
     x.cast_signed().min(y.cast_signed()).cast_unsigned()
 }
 
-// The roll-up's registers become those of the smaller precision, which is the answer.
+// Makes the roll-up's registers those of the smaller precision, which is the answer. Where that is its own already, they are not walked.
 fn lower_own(registers: &mut [u8], p: u32, other: u32) -> u32
     requires { LowerOwnPre p registers.old }
     ensures { LowerOwnPost p other registers.old result registers.new }
 {
-    if p <= other {
-        return p;
+    let q = p.min(other);
+    if q < p {
+        registers::lower_registers(registers, p, p - q);
     }
-    registers::lower_registers(registers, p, p - other);
-    other
+    q
 }
 
 // A row of precision p raises registers of precision q.
@@ -57,7 +57,7 @@ fn raise(registers: &mut [u8], q: u32, x: Incoming, row: &[u8], values: &[u32])
     requires { RaisePre q x row.now values.now registers.old }
     ensures { registers.new ≡ with_registers q (raised_to q x row.now values.now (registers_of q registers.old)) registers.old }
 {
-    if row.len() == 0 {
+    if row.is_empty() {
         raise_by_list(registers, q, x.precision, x.sparse_precision, values);
     } else {
         raise_by_row(registers, q, row, x.precision);

@@ -5,7 +5,7 @@ ghost use Rattle.lists.specs.Values.{Pair};
 ghost use Rattle.rollup.specs.Accumulator.{mem, limit, max_pending, ranges_fit, no_lists, waiting_bound, waiting_fits, counts_fit, lists_fit, registers_fit, sparse_fits, dense_fits, fits as headFits};
 ghost use Rattle.rollup.specs.Lent.{mem_of};
 
-use crate::accumulator::{Accumulator, Form, MAX_PENDING};
+use crate::accumulator::{Accumulator, Form, MAX_PENDING, MAX_STATE_BYTES, MAX_VALUE_BYTES};
 use crate::header;
 use crate::memory::Memory;
 use lists::registers::{largest_register, register_bytes};
@@ -49,7 +49,7 @@ impl Accumulator {
         requires { (self.pending_len ≤ max_pending) × (self.sparse_bytes ≤ 2147483647) }
         ensures { (result ≡ waiting_bound self) × (result ≤ 2147493887) }
     {
-        self.sparse_bytes + 5 * self.pending_len
+        self.sparse_bytes + MAX_VALUE_BYTES * self.pending_len
     }
 
     // Whether the values that wait leave the list below the limit.
@@ -69,7 +69,7 @@ impl Accumulator {
         self.sparse_len <= cells
             && self.pending_len <= waiting_cells
             && self.pending_len <= MAX_PENDING
-            && self.sparse_bytes <= 2147483647
+            && self.sparse_bytes <= MAX_STATE_BYTES
             && self.waiting_fits()
     }
 
@@ -106,7 +106,7 @@ impl Accumulator {
             && registers_fit(self.precision, registers)
     }
 
-    // Of the memory what it reads, and not the whole `Memory`: `write` is lent two of the slices as `&`, as C lends them const.
+    // Whether a head of any form fits. It takes the slices that it reads and no `Memory`, since `write` has two of them as `&` only: C lends them const.
     #[tactic(auto, unfolding(crate::specs::Accumulator::fits))]
     pub fn fits(self, registers: &[u8], sparse: &[u32], pending: &[u32]) -> bool
         ensures { result ≡ headFits self (mem registers.now sparse.now pending.now) }

@@ -14,6 +14,12 @@ pub(crate) const HYPERLOGLOG_PLUS_UNIQUE: u32 = 112;
 
 pub(crate) const ENCODING_VERSION: u32 = 2;
 
+const MIN_PRECISION: u32 = 4;
+
+const MAX_PRECISION: u32 = 24;
+
+const MAX_SPARSE_PRECISION: u32 = 25;
+
 const VALUE_TYPE_UNKNOWN: u32 = 0;
 
 const VALUE_TYPE_UINT32: u32 = 7;
@@ -55,27 +61,27 @@ pub fn allowed_types(value_type: u32) -> u8
 pub(crate) fn check_normal_precision(p: u32) -> bool
     ensures { result ≡ normal_range p }
 {
-    (4..=24).contains(&p)
+    (MIN_PRECISION..=MAX_PRECISION).contains(&p)
 }
 
 pub(crate) fn check_sparse_precision(p: u32, s: u32) -> bool
     ensures { result ≡ sparse_range p s }
 {
-    (p..=25).contains(&s)
+    (p..=MAX_SPARSE_PRECISION).contains(&s)
 }
 
 // Whether field 5 has bytes.
 pub fn has_data(view: StateView) -> bool
     ensures { result ≡ not (is_empty (data_of (viewed view.entry))) }
 {
-    view.data().len() != 0
+    !view.data().is_empty()
 }
 
 // Whether field 6 has bytes.
 pub fn has_sparse_data(view: StateView) -> bool
     ensures { result ≡ not (is_empty (list_of (viewed view.entry))) }
 {
-    view.sparse_data().len() != 0
+    !view.sparse_data().is_empty()
 }
 
 // 7 to 9.
@@ -147,7 +153,7 @@ fn registers_in_range(view: StateView) -> bool
 {
     let d = view.data();
     let p = view.fields.hll.precision;
-    d.len() == 0 || registers::largest_register(d, p) <= values::largest_rank(p)
+    d.is_empty() || registers::largest_register(d, p) <= values::largest_rank(p)
 }
 
 // 7 to 14.

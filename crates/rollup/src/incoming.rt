@@ -14,9 +14,9 @@ pub struct Incoming {
     pub precision: u32,
     pub sparse_precision: u32,
     pub sparse_size: u32,
-    // The kept bytes, where it is the first.
+    // The kept bytes of the roll-up where this comes first.
     pub list_bytes: usize,
-    // What its values count for in the waiting test, and how many may wait together with them.
+    // What its values count for in the waiting test, and how many values may wait at most, these included.
     pub growth: usize,
     pub most: usize,
 }

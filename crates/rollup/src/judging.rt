@@ -10,7 +10,7 @@ ghost use Rattle.rollup.specs.Lent.{mem_of};
 ghost use Rattle.rollup.specs.Adding.{masks_meet, has_both, same_pair, carried, match_answer, wanted_precision, wanted_registers, wanted_cells, has_room, listed_in};
 ghost use Rattle.rollup.specs.Judging.{HeaderPost, JudgePost, RoomPre, ListedPre};
 
-use crate::accumulator::{Accumulator, Form};
+use crate::accumulator::{Accumulator, Form, MAX_STATE_BYTES};
 use crate::header;
 use crate::memory::Memory;
 use crate::refusal::Refusal;
@@ -24,7 +24,7 @@ pub fn read_header<'a>(bytes: &'a [u8]) -> Result<StateView<'a>, Refusal>
     ensures read { HeaderPost bytes.now result }
     ensures same { IfOk result (λ v. v.bytes ≡ bytes.entry) }
 {
-    if 2147483647 < bytes.len() {
+    if MAX_STATE_BYTES < bytes.len() {
         return Err(Refusal::TooLong);
     }
     let view = StateView::parse(bytes)?;
@@ -134,7 +134,7 @@ pub(crate) fn decode_listed(view: StateView, scratch: &mut [u32]) -> Result<usiz
     ensures { Decodes (listed_in (viewed view.entry)) result scratch.new }
 {
     let list = view.sparse_data();
-    if list.len() == 0 {
+    if list.is_empty() {
         return Ok(0);
     }
     let hll = view.fields.hll;

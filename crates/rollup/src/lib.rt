@@ -10,8 +10,8 @@
 
 pub mod accumulator;
 pub mod adding;
-pub mod dense_paths;
-pub mod fitting;
+mod dense_paths;
+mod fitting;
 pub mod header;
 pub mod incoming;
 pub mod judging;
@@ -19,6 +19,6 @@ pub mod memory;
 pub mod paths;
 pub mod refusal;
 pub mod sparse_paths;
-pub mod starting;
-pub mod taking;
-pub mod writing;
+mod starting;
+mod taking;
+mod writing;

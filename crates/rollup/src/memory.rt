@@ -1,23 +1,23 @@
 // The memory that a roll-up is lent. New: the Rust's accumulator has `Vec`s of its own, and here there is no heap.
 ghost use Rattle.std.specs.Prelude.{◌≡◌, ◌+◌, ◌≤◌, ◌++◌, length, take};
 
-// Its slices may have any lengths: what a call needs more than is there it refuses (17). Where a part of one is lent beside another, both are taken out of it first, as
-// in `let (a, b) = (&mut *memory.sparse, &mut *memory.scratch);`: the borrow checker does not cover `f(memory.sparse, &memory.scratch[..k])`.
+// Its slices may have any lengths: a call that needs more than is there is refused (17). Where a part of one is lent beside another, both are taken out of the struct first, as
+// in `let (sparse, scratch) = (&mut *memory.sparse, &mut *memory.scratch);`: the borrow checker does not cover `f(memory.sparse, &memory.scratch[..k])`.
 #[derive(Drop)]
 pub struct Memory<'a> {
     // The registers, a byte each.
     pub registers: &'a mut [u8],
-    // The values that are kept, and those that wait. The head has how many there are.
+    // The values that are kept, and those that wait. The head says how many of each there are.
     pub sparse: &'a mut [u32],
     pub pending: &'a mut [u32],
     // Working memory, of which nothing is kept between two calls.
     pub scratch: &'a mut [u32],
 }
 
-// The first k values of `values` go behind the first n of `list`.
-pub(crate) fn append(list: &mut [u32], n: usize, values: &[u32], k: usize)
-    requires { (k ≤ length values.now) × (n + k ≤ length list.old) }
-    ensures { take (n + k) list.new ≡ take n list.old ++ take k values.now }
+// The values go behind the first n of `list`.
+pub(crate) fn append(list: &mut [u32], n: usize, values: &[u32])
+    requires { n + length values.now ≤ length list.old }
+    ensures { take (n + length values.now) list.new ≡ take n list.old ++ values.now }
 {
-    list[n..n + k].copy_from_slice(&values[..k]);
+    list[n..n + values.len()].copy_from_slice(values);
 }

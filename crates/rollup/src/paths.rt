@@ -8,6 +8,11 @@ use crate::accumulator::{Accumulator, Form};
 use crate::fitting;
 use crate::incoming::Incoming;
 
+// How many values are inserted at most, and how many are to be kept already for each of them.
+const MAX_INSERTED: usize = 16;
+
+const KEPT_FOR_EACH: usize = 16;
+
 // The paths of values at a list roll-up.
 #[derive(Clone, Copy, Debug, PartialEq, Eq)]
 pub enum Path {
@@ -33,8 +38,8 @@ impl Accumulator {
         requires { InsertsPre self kept.now distinct }
         ensures { result ≡ inserts self kept.now k }
     {
-        k <= 16
-            && 16 * k <= self.sparse_len
+        k <= MAX_INSERTED
+            && KEPT_FOR_EACH * k <= self.sparse_len
             && (distinct || self.encoding().has_distinct_slots(kept))
     }
 

@@ -1,4 +1,4 @@
-// Document 01's refusals: the first question that was answered with no. Two of them carry an error of `wire` or `lists`, so that the numbers are a method's and no discriminants.
+// Document 01's refusals: the first question that was answered with no. Two of them carry an error of `wire` or `lists`, so the numbers come from a method and are no discriminants.
 ghost use Rattle.std.specs.Prelude.{◌≡◌};
 ghost use Rattle.rollup.specs.declared.refusal.Refusal.TheVariants.{Unread, BadList, OutputTooShort};
 ghost use Rattle.rollup.specs.Refusals.{number, answer_of};
@@ -87,12 +87,12 @@ impl From<EncodeError> for Refusal {
     }
 }
 
-// The number of an answer, 0 for accepted.
-pub fn answer_of(r: Result<(), Refusal>) -> u8
+// The number of an answer, 0 for accepted or written.
+pub fn answer_of<T: Copy>(r: Result<T, Refusal>) -> u8
     ensures { result ≡ answer_of r }
 {
     match r {
-        Ok(()) => 0,
+        Ok(_) => 0,
         Err(e) => e.number(),
     }
 }

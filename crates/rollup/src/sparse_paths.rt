@@ -42,7 +42,7 @@ pub fn set_lists(registers: &mut [u8], enc: Sparse, kept: &[u32], waiting: &[u32
 
 // ---- merging
 
-// A list in order. With nothing in front of what came in, it is so already.
+// Puts a list in order. Where none of its values waited before (w is 0), it is in order already.
 fn in_order(list: &mut [u32], w: usize, scratch: &mut [u32])
     requires { (length list.old ≤ length scratch.old) × (w ≡ 0 → ascends list.old ≡ true) }
     ensures { list.new ≡ sort_of list.old }
@@ -64,12 +64,13 @@ fn merge_back(
     ensures { MergePost enc.normal_precision enc.sparse_precision (take n sparse.old) incoming.now result sparse.new }
 {
     let r = enc.merge_dedupe_into(&sparse[..n], incoming, scratch);
-    append(sparse, 0, scratch, r.len);
+    append(sparse, 0, &scratch[..r.len]);
     r
 }
 
-// The first n values of `sparse`, merged with those that wait and those that come in. These go after those that wait first: `scratch` is the
-// spare of the sort, and takes the merge. It is lent slices and no `Memory`, so that parts of two can be lent at once.
+// The first n values of `sparse`, merged with the w that wait and the k that come in. First the latter go behind those that wait: `scratch` is the
+// spare of the sort, and takes the merge. Lists come whole and with their counts, since what is put behind the counted values needs the room; and as slices, not as a
+// `Memory`, so that parts of two can be lent at once.
 fn merge_all(
     enc: Sparse,
     sparse: &mut [u32],
@@ -82,10 +83,10 @@ fn merge_all(
     requires { JoinPre enc sparse.old n pending.old w scratch.old k }
     ensures { MergePost enc.normal_precision enc.sparse_precision (take n sparse.old) (take w pending.old ++ take k scratch.old) result sparse.new }
 {
-    append(pending, w, scratch, k);
-    let all = w + k;
-    in_order(&mut pending[..all], w, scratch);
-    merge_back(enc, sparse, n, &pending[..all], scratch)
+    append(pending, w, &scratch[..k]);
+    let all = &mut pending[..w + k];
+    in_order(all, w, scratch);
+    merge_back(enc, sparse, n, all, scratch)
 }
 
 // ---- the paths. `self` has the mask and the count of what comes in already.
@@ -152,7 +153,8 @@ impl Accumulator {
         ensures same { SameLent memory.old memory.new }
     {
         let (pending, scratch) = (&mut *memory.pending, &mut *memory.scratch);
-        append(pending, self.pending_len, scratch, k);
+        let values = &scratch[..];
+        append(pending, self.pending_len, &values[..k]);
         Accumulator {
             pending_len: self.pending_len + k,
             ..self
@@ -214,7 +216,7 @@ impl Accumulator {
         ensures same { SameLent memory.old memory.new }
     {
         let h = self.counted(x);
-        if row.len() != 0 {
+        if !row.is_empty() {
             return h.densify_with(memory, row);
         }
         match path {

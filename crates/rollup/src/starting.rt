@@ -25,7 +25,7 @@ pub(crate) fn start(x: Incoming, memory: &mut Memory, row: &[u8], k: usize) -> A
         sparse_size: x.sparse_size,
         ..Accumulator::new()
     };
-    if row.len() != 0 {
+    if !row.is_empty() {
         registers::load_registers(memory.registers, row, x.precision);
         return Accumulator {
             form: Form::Dense,
@@ -33,7 +33,8 @@ pub(crate) fn start(x: Incoming, memory: &mut Memory, row: &[u8], k: usize) -> A
         };
     }
     let (sparse, scratch) = (&mut *memory.sparse, &mut *memory.scratch);
-    append(sparse, 0, scratch, k);
+    let values = &scratch[..];
+    append(sparse, 0, &values[..k]);
     Accumulator {
         form: Form::Sparse,
         sparse_len: k,

@@ -1,4 +1,4 @@
-// Writing a roll-up. Ported from `Accumulator::serialize`, `flushed_union_bytes`, `current_sparse_size` and `view` in src/accumulator.rs of
+// Writing a roll-up. Ported from `Accumulator::serialize`, `flushed_union_bytes`, `current_sparse_size` and `view` (here `fields`) in src/accumulator.rs of
 // zetasketch-rs at commit 9abe68bf87 (Apache-2.0, see NOTICE). Changed: the output is lent and its length asked for before anything is written
 // (23), the values that wait are sorted in place and merged into lent memory (17), the list goes from there into the output without a copy
 // of its bytes, a list at the limit is refused (22), and a contract on every function.
@@ -10,7 +10,7 @@ ghost use Rattle.rollup.specs.declared.accumulator.Form.TheVariants.{Sparse as L
 ghost use Rattle.rollup.specs.Accumulator.{mem, fits as headFits};
 ghost use Rattle.rollup.specs.Refusals.{answer_of, length_of};
 ghost use Rattle.rollup.specs.Writing.{state_with, WritePost};
-ghost use Rattle.rollup.specs.WritingPaths.{Writes, written_fields, list_outcome, ValuesPre, FlushPre, FlushPost};
+ghost use Rattle.rollup.specs.WritingPaths.{Writes, head_fields, list_outcome, ValuesPre, FlushPre, FlushPost};
 
 use crate::accumulator::{Accumulator, Form};
 use crate::fitting;
@@ -25,43 +25,27 @@ use wire::state::{Fields, HllFields};
 use wire::view::StateView;
 
 impl Accumulator {
-    // A state of the head's numbers, with registers or with a list. Its registers are the first of `bytes`; of a list only how many bytes it has counts here.
-    fn view<'a>(
-        self,
-        bytes: &'a [u8],
-        size: u32,
-        dense: bool,
-        data_len: usize,
-        sparse_len: usize,
-    ) -> StateView<'a>
-        ensures fields { result.fields ≡ written_fields self size dense data_len sparse_len }
-        ensures same { result.bytes ≡ bytes.entry }
+    // The fields of a state of the head's numbers, still without registers and without a list.
+    fn fields(self, sparse_size: u32) -> Fields
+        ensures { result ≡ head_fields self sparse_size }
     {
-        let data = Part {
-            start: 0,
-            len: data_len,
-        };
-        let sparse_data = Part {
-            start: 0,
-            len: sparse_len,
-        };
+        let absent = Part { start: 0, len: 0 };
         let hll = HllFields {
-            sparse_size: size,
+            sparse_size,
             precision: self.precision,
             sparse_precision: self.sparse_precision,
-            data_present: dense,
-            sparse_data_present: !dense,
-            data,
-            sparse_data,
+            data_present: false,
+            sparse_data_present: false,
+            data: absent,
+            sparse_data: absent,
         };
-        let fields = Fields {
+        Fields {
             aggregator_type: HYPERLOGLOG_PLUS_UNIQUE,
             num_values: self.num_values,
             encoding_version: ENCODING_VERSION,
             value_type: self.value_type,
             hll,
-        };
-        StateView { bytes, fields }
+        }
     }
 
     // ---- a list roll-up
@@ -80,7 +64,11 @@ impl Accumulator {
         if fitting::size_limit(self.precision) <= bytes {
             return Err(Refusal::ListTooLong);
         }
-        let view = self.view(b"", size, false, 0, bytes);
+        // The list's bytes are put behind the head, so that the view has no bytes: how many they are is all that counts.
+        let mut fields = self.fields(size);
+        fields.hll.sparse_data_present = true;
+        fields.hll.sparse_data.len = bytes;
+        let view = StateView { bytes: b"", fields };
         let total = view.head_len() + bytes;
         if out.len() < total {
             return Err(Refusal::OutputTooShort);
@@ -90,7 +78,7 @@ impl Accumulator {
         Ok(total)
     }
 
-    // 17, and then the list: what is kept as it is where nothing waits, else all values as one list. Of the memory only the two lists count.
+    // 17, and then the list: what is kept as it is where nothing waits, else all values as one list. Registers are not looked at.
     fn write_list(
         self,
         sparse: &[u32],
@@ -109,7 +97,7 @@ impl Accumulator {
             return self.write_values(self.sparse_size, kept, merging::written_len(kept), out);
         }
         let enc = self.encoding();
-        let u = flush_pending(enc, kept, pending, self.pending_len, scratch);
+        let u = flush_pending(enc, kept, &mut pending[..self.pending_len], scratch);
         let list = &scratch[..u.len];
         self.write_values(enc.distinct_indices(list) as u32, list, u.bytes, out)
     }
@@ -121,17 +109,17 @@ impl Accumulator {
         requires { self.precision ≤ 24 }
         ensures { Writes (encode_step (state_with self self.sparse_size (some (registers_of self.precision registers.now)) none) (length out.old)) out.old (answer_of result) (length_of result) out.new }
     {
-        let view = self.view(
-            registers,
-            self.sparse_size,
-            true,
-            register_bytes(self.precision),
-            0,
-        );
+        let mut fields = self.fields(self.sparse_size);
+        fields.hll.data_present = true;
+        fields.hll.data.len = register_bytes(self.precision);
+        let view = StateView {
+            bytes: registers,
+            fields,
+        };
         Ok(view.encode(out)?)
     }
 
-    // ---- all of it. What is only read is lent as `&`, as C lends it const, and not as a whole `Memory`, which would ask more of callers.
+    // ---- all of it. `registers` and `sparse` are only read, and C lends them const. So the slices are lent one by one: a `Memory` would ask callers for `&mut`.
 
     // 21, 17, 22 and 23, of a head that fits, and then the state. The answer is how many bytes were written.
     pub fn write_fitting(
@@ -171,17 +159,11 @@ impl Accumulator {
     }
 }
 
-// What is kept and the first w values that wait, as one list at the start of `scratch`, which is the spare of the sort before.
-fn flush_pending(
-    enc: Sparse,
-    kept: &[u32],
-    pending: &mut [u32],
-    w: usize,
-    scratch: &mut [u32],
-) -> Merged
-    requires { FlushPre enc kept.now pending.old w scratch.old }
-    ensures { FlushPost enc.normal_precision enc.sparse_precision kept.now pending.old w result pending.new scratch.new }
+// The values that are kept and those that wait, as one list at the start of `scratch`, which is the spare of the sort before.
+fn flush_pending(enc: Sparse, kept: &[u32], waiting: &mut [u32], scratch: &mut [u32]) -> Merged
+    requires { FlushPre enc kept.now waiting.old scratch.old }
+    ensures { FlushPost enc.normal_precision enc.sparse_precision kept.now waiting.old result waiting.new scratch.new }
 {
-    sorting::sort_runs(&mut pending[..w], scratch);
-    enc.merge_dedupe_into(kept, &pending[..w], scratch)
+    sorting::sort_runs(waiting, scratch);
+    enc.merge_dedupe_into(kept, waiting, scratch)
 }

@@ -2,5 +2,5 @@
 use Rattle.rollup.proofs.DenseLaws.{own_kept}
 use Rattle.rollup.proofs.dense_paths.lower_own.Goals as goal
 
-pub returns-then-p-other : goal.returns-then-p-other
-returns-then-p-other c = own_kept c.args.p c.args.other c.args.registers.now c.requires c.if-p-other.true
+pub returns-else-q-p : goal.returns-else-q-p
+returns-else-q-p c = own_kept c.args.p c.args.other c.args.registers.now c.requires c.min-q.ensures c.if-q-p.false

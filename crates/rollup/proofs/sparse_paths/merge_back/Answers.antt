@@ -1,5 +1,5 @@
 -- The merge is no longer than the two lists together (`back_fits`).
-use Rattle.std.proofs.Common.{arith}
+use Rattle.std.proofs.Common.{arith, length-take-le}
 use Rattle.rollup.proofs.SparseLaws.{back_fits, back_scratch}
 use Rattle.rollup.proofs.sparse_paths.merge_back.Goals as goal
 
@@ -7,4 +7,4 @@ pub append-requires : goal.append-requires
 append-requires c =
     let m = c.merge_dedupe_into-r in
     let b = back_fits c.requires m.ensures.merge in
-    (back_scratch c.requires m.ensures.merge m.auto.out, omega (arith, b, c.requires.room))
+    omega (arith, b, c.requires.room, length-take-le m.result.len m.new.out (back_scratch c.requires m.ensures.merge m.auto.out))

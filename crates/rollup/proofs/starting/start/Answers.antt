@@ -1,5 +1,6 @@
 -- The row is loaded as registers, or the values are copied.
-use Rattle.std.proofs.Common.{ap}
+use Rattle.std.proofs.Common.{sym, ap, ◌∙◌}
+use borrow.Author.Tests.{eqb-true, eqb-false}
 use Rattle.rollup.specs.declared.accumulator.Accumulator.{Accumulator}
 use Rattle.rollup.specs.declared.accumulator.Form.TheVariants.{Sparse, Dense}
 use Rattle.rollup.specs.Accumulator.{head_with}
@@ -7,12 +8,12 @@ use Rattle.rollup.proofs.StartLaws.{start_load, start_list_lem, start_dense_lem}
 use Rattle.rollup.proofs.starting.start.Goals as goal
 
 pub load_registers-requires : goal.load_registers-requires
-load_registers-requires c = start_load c.requires c.if-row-ne0.true
+load_registers-requires c = start_load c.requires (eqb-false _ _ (sym c.is_empty.ensures ∙ c.if-not-is_empty.true))
 
-pub returns-then-row-ne0-clause-shows : goal.returns-then-row-ne0-clause-shows
-returns-then-row-ne0-clause-shows c =
+pub returns-then-not-is_empty-clause-shows : goal.returns-then-not-is_empty-clause-shows
+returns-then-not-is_empty-clause-shows c =
     let x = c.args.x in
-    start_dense_lem c.requires c.args.memory.now.pending.now c.if-row-ne0.true c.load_registers.ensures
+    start_dense_lem c.requires c.args.memory.now.pending.now (eqb-false _ _ (sym c.is_empty.ensures ∙ c.if-not-is_empty.true)) c.load_registers.ensures
     (ap
     (λ (f : Accumulator). head_with Dense x.mask x.value_type x.num_values x.precision x.sparse_precision x.sparse_size f.sparse_len f.sparse_bytes f.pending_len)
     c.new.ensures)
@@ -20,5 +21,5 @@ returns-then-row-ne0-clause-shows c =
 pub returns-clause-shows : goal.returns-clause-shows
 returns-clause-shows c =
     let x = c.args.x in
-    start_list_lem c.requires c.args.memory.now.pending.now c.if-row-ne0.false c.append.ensures
+    start_list_lem c.requires c.args.memory.now.pending.now (eqb-true _ _ (sym c.is_empty.ensures ∙ c.if-not-is_empty.false)) c.append.ensures
     (ap (λ (f : Accumulator). head_with Sparse x.mask x.value_type x.num_values x.precision x.sparse_precision x.sparse_size c.args.k x.list_bytes f.pending_len) c.new.ensures)

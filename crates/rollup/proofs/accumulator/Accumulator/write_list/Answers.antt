@@ -24,17 +24,23 @@ returns-then-self-eq0 c = kept_post c.args.self c.args.sparse.now c.args.pending
 pub encoding-enc-requires : goal.encoding-enc-requires
 encoding-enc-requires c = (list_fit c.args.self c.args.sparse.now c.args.pending.now c.requires.0 c.requires.1).pair
 
+pub slice_bounds-flush_pending-end : goal.slice_bounds-flush_pending-end
+slice_bounds-flush_pending-end c = (list_fit c.args.self c.args.sparse.now c.args.pending.now c.requires.0 c.requires.1).waiting_in
+
+pub slice_bounds-flush_pending-end-2 : goal.slice_bounds-flush_pending-end-2
+slice_bounds-flush_pending-end-2 c = sym (length-take-le c.args.self.pending_len c.args.pending.now (list_fit c.args.self c.args.sparse.now c.args.pending.now c.requires.0 c.requires.1).waiting_in)
+
 pub flush_pending-u-requires : goal.flush_pending-u-requires
 flush_pending-u-requires c = flush_pre c.args.self c.args.sparse.now c.args.pending.now c.requires.0 c.requires.1 (length c.args.scratch.now) c.args.out.now c.if-scratch-self.false c.encoding-enc.result c.encoding-enc.ensures c.args.scratch.now refl
 
 pub distinct_indices-requires : goal.distinct_indices-requires
-distinct_indices-requires c = index_pre c.args.self c.args.sparse.now c.args.pending.now c.requires.0 c.requires.1 (length c.args.scratch.now) c.args.out.now c.if-scratch-self.false c.encoding-enc.result c.encoding-enc.ensures c.flush_pending-u.result c.flush_pending-u.new.pending c.flush_pending-u.new.scratch c.flush_pending-u.ensures
+distinct_indices-requires c = index_pre c.args.self c.args.sparse.now c.args.pending.now c.requires.0 c.requires.1 (length c.args.scratch.now) c.args.out.now c.if-scratch-self.false c.encoding-enc.result c.encoding-enc.ensures c.flush_pending-u.result c.flush_pending-u.new.waiting c.flush_pending-u.new.scratch c.flush_pending-u.ensures
 
 pub overflow_cast-distinct_indices : goal.overflow_cast-distinct_indices
-overflow_cast-distinct_indices c = omega (arith, size_small c.args.self c.args.sparse.now c.args.pending.now c.requires.0 c.requires.1 (length c.args.scratch.now) c.args.out.now c.if-scratch-self.false c.encoding-enc.result c.encoding-enc.ensures c.flush_pending-u.result c.flush_pending-u.new.pending c.flush_pending-u.new.scratch c.flush_pending-u.ensures c.distinct_indices.result c.distinct_indices.ensures)
+overflow_cast-distinct_indices c = omega (arith, size_small c.args.self c.args.sparse.now c.args.pending.now c.requires.0 c.requires.1 (length c.args.scratch.now) c.args.out.now c.if-scratch-self.false c.encoding-enc.result c.encoding-enc.ensures c.flush_pending-u.result c.flush_pending-u.new.waiting c.flush_pending-u.new.scratch c.flush_pending-u.ensures c.distinct_indices.result c.distinct_indices.ensures)
 
 pub write_values-requires-2 : goal.write_values-requires-2
-write_values-requires-2 c = flushed_pre c.args.self c.args.sparse.now c.args.pending.now c.requires.0 c.requires.1 (length c.args.scratch.now) c.args.out.now c.if-scratch-self.false c.encoding-enc.result c.encoding-enc.ensures c.flush_pending-u.result c.flush_pending-u.new.pending c.flush_pending-u.new.scratch c.flush_pending-u.ensures
+write_values-requires-2 c = flushed_pre c.args.self c.args.sparse.now c.args.pending.now c.requires.0 c.requires.1 (length c.args.scratch.now) c.args.out.now c.if-scratch-self.false c.encoding-enc.result c.encoding-enc.ensures c.flush_pending-u.result c.flush_pending-u.new.waiting c.flush_pending-u.new.scratch c.flush_pending-u.ensures
 
 pub returns : goal.returns
-returns c = flushed_post c.args.self c.args.sparse.now c.args.pending.now c.requires.0 c.requires.1 (length c.args.scratch.now) c.args.out.now c.if-scratch-self.false c.encoding-enc.result c.encoding-enc.ensures c.flush_pending-u.result c.flush_pending-u.new.pending c.flush_pending-u.new.scratch c.flush_pending-u.ensures c.if-self-eq0.false c.distinct_indices.result c.distinct_indices.ensures c.flush_pending-u.auto.pending _ _ _ c.write_values-2.ensures
+returns c = flushed_post c.args.self c.args.sparse.now c.args.pending.now c.requires.0 c.requires.1 (length c.args.scratch.now) c.args.out.now c.if-scratch-self.false c.encoding-enc.result c.encoding-enc.ensures c.flush_pending-u.result c.flush_pending-u.new.waiting c.flush_pending-u.new.scratch c.flush_pending-u.ensures c.if-self-eq0.false c.distinct_indices.result c.distinct_indices.ensures _ _ _ c.write_values-2.ensures
