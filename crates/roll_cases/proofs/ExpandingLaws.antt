@@ -181,8 +181,3 @@ module _ (rest word next out after : List ℕ) (n : ℕ) (r : Option ℕ) (first
       joined_long (take n out) l (length out) (word_bytes word) (line_bytes next)
       (subst (λ (x : Option ℕ). Expands (take n out) (word_bytes word) out x after) f p)
       (sym (ap (onto (take n out)) whole) ∙ w)
-
--- ---- for callers: the front that an answer counts
-
-pub expanded : (done : List ℕ) (x : Option (List ℕ)) (out after : List ℕ) (r : Option ℕ) (n : ℕ) → r ≡ Some n → Expands done x out r after → IsPrefixLen n after
-expanded done x out after r n e p = (subst (λ (y : Option ℕ). Expands done x out y after) e p).1

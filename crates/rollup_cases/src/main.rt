@@ -92,7 +92,7 @@ fn size(word: &[u8], most: usize) -> usize
     (number(word) as usize).min(most)
 }
 
-// What is only read is lent to the writer as `&`.
+// What is only read is lent to the writer as `&`. `write` and `write_fitting` take the memory apart themselves: a closure over what they lend would have six parameters.
 fn write(head: Accumulator, memory: &mut Memory, out: &mut [u8]) -> Option<Result<usize, Refusal>>
     ensures { IfSome result (λ written. length_of written ≤ length out.new) }
 {

@@ -55,6 +55,7 @@ fn varint_case(rt: &impl Print, at: usize, bytes: &[u8]) -> Replayed {
     })
 }
 
+#[tactic(auto, using(wire::proofs::VarintLaws::len_le, console::proofs::TextLaws::front))]
 fn put_case(rt: &impl Print, v: u64) -> io::Result<()> {
     let mut out = [0u8; 10];
     let n = wire::varint::put_varint(&mut out, 0, v);

@@ -11,12 +11,6 @@ use Rattle.roll_cases.specs.Expanding.{line_bytes, LinePost}
 use Rattle.roll_cases.proofs.ExpandingLaws.{line_end, line_turn, line_refused, onto_end}
 use Rattle.roll_cases.proofs.expanding.expand.Goals as goal
 
-pub loop-word-init : goal.loop-word-init
-loop-word-init c =
-    let s = c.into_iter-word-iterator in
-    let e : s.result.rest.now ≡ c.args.line.now = ap (λ (i : Pieces). i.rest.now) s.ensures.into_iter_gives ∙ c.new-word-items.ensures.0 in
-    (omega arith, refl, ap (λ (l : List ℕ). onto [] (line_bytes l)) (sym e), ap (λ (i : Pieces). i.end) s.ensures.into_iter_gives ∙ c.new-word-items.ensures.1)
-
 pub returns-in_err-n : goal.returns-in_err-n
 returns-in_err-n c =
     let l = c.loop-word in

@@ -10,18 +10,10 @@ use Rattle.roll_cases.specs.Expanding.{times_of, Expands}
 use Rattle.roll_cases.proofs.ExpandingLaws.{times_none, times_turn, times_refused, onto_end}
 use Rattle.roll_cases.proofs.expanding.put_times.Goals as goal
 
-pub loop-init : goal.loop-init
-loop-init c = (c.requires, refl, ap (λ (k : ℕ). onto (take c.args.start c.args.out.now) (times_of k (hex_of c.args.piece.now))) (let e : c.args.n ≡ c.args.n - 0 = omega arith in e))
-
 pub returns-in_err-at : goal.returns-in_err-at
 returns-in_err-at c = let l = c.loop in
     subst (λ (r : Option ℕ). Expands (take c.args.start c.args.out.now) (times_of c.args.n (hex_of c.args.piece.now)) c.args.out.now r (put_mid l.at (length l.out - l.at) l.out c.read_bytes.new.out)) (sym c.from_residual.ensures)
     (λ h w. omega (arith, l.invariant.1, times_refused c.args.piece.now l.out c.read_bytes.new.out l.at (c.args.n - l.counter) c.read_bytes.result l.invariant.0 (omega arith) c.read_bytes.auto.out c.read_bytes.ensures.post c.in_err-at.was h (sym l.invariant.2 ∙ w)))
-
-pub overflow_add-at : goal.overflow_add-at
-overflow_add-at c =
-    let l = c.loop in
-    omega (arith, (times_turn c.args.piece.now l.out c.read_bytes.new.out l.at (c.args.n - l.counter) c.read_bytes.result l.invariant.0 (omega arith) c.read_bytes.auto.out c.read_bytes.ensures.post c.in_ok-at.field-0 c.in_ok-at.was).0)
 
 pub loop-preserved : goal.loop-preserved
 loop-preserved c = let l = c.loop in
