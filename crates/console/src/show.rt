@@ -64,8 +64,8 @@ pub fn bad_case(rt: &impl Print) {
     let _ = println!(rt; "bad case");
 }
 
-// Replays the cases of a text, of which each goes up to the next `end`. A write that fails in a case ends it: a `main` that answered it would rest on one more
-// function of C.
+// Replays the cases of a text, of which each goes up to the next `end`. A write that fails in a case ends it, and leaves the output short, too. A `main` that
+// answered it would rest on one more function of C.
 pub fn replay<P: Print, F: Fn(&P, &[u8]) -> Replayed + Drop>(rt: &P, text: &[u8], end: u8, case: F)
     requires { F.IsAlwaysCallable case }
 {

@@ -1,13 +1,12 @@
-use mathlib.Core.Path.{◌≡◌, refl, sym, ap, ◌∙◌, subst}
+use mathlib.Core.Path.{◌≡◌, sym, ap, ◌∙◌, subst}
 use Prim.Native.Nat.{ℕ, ◌+◌, ◌-◌}
 use native.Mathlib.Omega.{arith}
 use lib.ListN.{length, take}
 use borrow.Rule.Slice.PartMut.{put_mid, same_len_mid}
 use Rattle.std.specs.Prelude.{Option}
 use Rattle.console.specs.Input.{hex_of, onto}
-use Rattle.console.proofs.TextLaws.{front}
 use Rattle.roll_cases.specs.Expanding.{times_of, Expands}
-use Rattle.roll_cases.proofs.ExpandingLaws.{times_none, times_turn, times_refused, onto_end}
+use Rattle.roll_cases.proofs.ExpandingLaws.{times_turn, times_refused}
 use Rattle.roll_cases.proofs.expanding.put_times.Goals as goal
 
 pub returns-in_err-at : goal.returns-in_err-at
@@ -24,9 +23,3 @@ loop-preserved c = let l = c.loop in
       s ∙ l.invariant.1,
       l.invariant.2 ∙ w.1 ∙ ap (λ (k : ℕ). onto (take (l.at + c.in_ok-at.field-0) after) (times_of k (hex_of c.args.piece.now))) (let e : c.args.n - l.counter - 1 ≡ c.args.n - (l.counter + 1) = omega arith in e),
     )
-
-pub returns : goal.returns
-returns c = let l = c.loop in (
-  l.invariant.2 ∙ ap (onto (take l.at l.out)) (times_none (hex_of c.args.piece.now) (c.args.n - l.counter) (omega arith)) ∙ onto_end (take l.at l.out),
-  front l.at l.out l.invariant.0,
-)
