@@ -10,7 +10,7 @@ use native.Mathlib.Omega.{arith}
 use lib.ListN.{length, set, drop, take, get_or, length-drop, drop_of_length-le}
 use lib.Seq.{length-take-le, drop-cons, drop-drop, append_snoc, take-suc-set, drop-set-lt}
 use lib.Dec.{ltb}
-use borrow.Author.Tests.{le-ltb, ltb-true, ltb-false, eq-eqb, ne_eqb}
+use borrow.Author.Tests.{lt-ltb, le-ltb, ltb-true, ltb-false, eq-eqb, ne_eqb}
 use Rattle.std.specs.Char.{is_ascii_digit}
 use Rattle.std.specs.Counts.{IsPrefixLen}
 use Rattle.std.specs.List.{AllWithin, HoldsAt}
@@ -18,7 +18,7 @@ use Rattle.std.proofs.lemmas.Iterator.{index_from_first}
 use Rattle.std.proofs.lemmas.List.{take_all}
 use Rattle.std.specs.declared.ops.ControlFlow.{ControlFlow}
 use Rattle.std.specs.declared.ops.ControlFlow.TheVariants.{Continue, Break}
-use Rattle.console.specs.declared.input.StreamError.TheVariants.{Full}
+use Rattle.console.specs.declared.input.StreamError.TheVariants.{Failed, Full}
 use Rattle.console.specs.declared.input.Arrived.{Arrived}
 use Rattle.console.specs.Input.{Stream, so_far, reading_of, ArrivedIn, StreamPost, FrontOnly, up_to, decimal_from, decimal_of, below64, cons_to, byte_then, pairs_of, PairsPost, onto}
 
@@ -192,6 +192,34 @@ pairs_done value word before out i n e l room whole rest same = (
 )
 
 -- ---- a read
+
+-- What a read makes of a stream, case by case: the laws that docs/PORT.md names. They are for a reader; the check of `after_read` unfolds `reading_of` itself.
+pub reading_failed : {E : Type 0} (n len : ℕ) {got : Result ℕ E} {x : E} → got ≡ Err x → Break (Err Failed) ≡ reading_of n got len
+unfolding reading_of
+reading_failed {E} n len e = ap (λ (r : Result ℕ E). reading_of n r len) (sym e)
+
+module _ {E : Type 0} (n len k : ℕ) {got : Result ℕ E} (e : got ≡ Ok k) where
+  abbrev counted_by : Result ℕ E
+  counted_by = Ok k
+
+  counted_is : reading_of n counted_by len ≡ reading_of n got len
+  counted_is = ap (λ (x : Result ℕ E). reading_of n x len) (sym e)
+
+  pub reading_full : len ≤ n + k → Break (Err Full) ≡ reading_of n got len
+  unfolding reading_of
+  reading_full full = sym (rw (le-ltb (n + k) len full)) ∙ counted_is
+
+  pub reading_all : n + k < len → k ≡ 0 → Break (Ok n) ≡ reading_of n got len
+  unfolding reading_of
+  reading_all room end = sym (rw (lt-ltb (n + k) len room) (ap (λ (j : ℕ). so_far j n) end)) ∙ counted_is
+
+  pub reading_more : n + k < len → 0 < k → Continue (n + k) ≡ reading_of n got len
+  unfolding reading_of
+  reading_more room came = sym (rw (lt-ltb (n + k) len room) (next k came)) ∙ counted_is
+    where
+      next : (k : ℕ) → 0 < k → so_far k n ≡ Continue (n + k)
+      next zero h = let z : ⊥ = omega arith in absurd z
+      next (suc k) h = refl
 
 -- More bytes than before have come, and the buffer has room for others; or what is known of the stream is what `read_all` promises.
 abbrev pub Goes : ℕ → List ℕ → ControlFlow Stream ℕ → Type 0
