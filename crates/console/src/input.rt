@@ -173,9 +173,9 @@ pub fn read_pairs<F: Fn(u8) -> Option<u8> + Drop>(
     if out.len() < n || word.len() % 2 == 1 {
         return None;
     }
-    for i in 0..n {
-        let high = digit(word[2 * i])?;
-        let low = digit(word[2 * i + 1])?;
+    for (i, pair) in word.chunks_exact(2).enumerate() {
+        let high = digit(pair[0])?;
+        let low = digit(pair[1])?;
         out[i] = high * 16 + low;
     }
     Some(n)

@@ -41,9 +41,10 @@ pub fn hex(bytes: &[u8], out: &mut [u8]) -> usize
     requires { 2 * length bytes.now ≤ length out.old }
     ensures { HexPost bytes.now out.old result out.new }
 {
-    for i in 0..bytes.len() {
-        out[2 * i] = glyph(bytes[i] / 16);
-        out[2 * i + 1] = glyph(bytes[i] % 16);
+    // By the place, and not over `out.chunks_exact_mut(2)`: no contract says what a slice that is lent to it ends as.
+    for (i, b) in bytes.iter().enumerate() {
+        out[2 * i] = glyph(b / 16);
+        out[2 * i + 1] = glyph(b % 16);
     }
     2 * bytes.len()
 }
