@@ -1,13 +1,13 @@
 -- Laws of base64: characters and their bits, three bytes stored, the groups of a word.
-use mathlib.Core.Path.{◌≡◌, refl, sym, ap, ap₂, ◌∙◌}
+use mathlib.Core.Path.{◌≡◌, refl, sym, ap, ◌∙◌}
 use mathlib.Core.List.{List, [], ◌∷◌, ◌++◌, append_assoc}
 use mathlib.Core.Bool.{Bool, cond}
 use Rattle.std.specs.Prelude.{Option, Some, None, MatchOption}
 use mathlib.Core.Logic.{◌≢◌}
-use Prim.Native.Nat.{ℕ, suc, ◌+◌, ◌%◌, ◌<◌, ◌≤◌}
+use Prim.Native.Nat.{ℕ, ◌+◌, ◌%◌, ◌<◌, ◌≤◌}
 use native.Mathlib.Omega.{arith}
-use lib.ListN.{length, take, drop, get_or, drop_of_length-le}
-use lib.Seq.{sets, sets-eq, length-sets, drop-cons, take-append-add, take-append-le, length-take-le}
+use lib.ListN.{length, take, drop, get_or}
+use lib.Seq.{sets, sets-eq, length-sets, take-append-add, take-append-le, length-take-le}
 use borrow.Author.Tests.{lt-ltb, le-ltb, eq-eqb, ne_eqb}
 use Rattle.std.specs.List.{AllWithin, HoldsAt}
 use Rattle.console.specs.Input.{up_to, onto}

@@ -48,14 +48,13 @@ fn tell_of_unpacking(
     output::say(stdout, stderr, b"unpack", said, text);
 }
 
-// A batch may have 65,536 bytes, and there is a cell for each record that it can have.
+// A batch may have 65,536 bytes.
 fn unpack_into(stdin: &mut impl Read, stdout: &impl Print, stderr: &impl Print, text: &mut [u8])
     requires { length text.old ≡ 1048576 }
 {
     let mut batch: [u8; 65537] = filled(0);
     let arrived = input::read_all(stdin, &mut batch);
-    let mut indices: [u32; 65536] = filled(0);
-    let said = replies::unpack_reply(arrived, &batch, &mut indices, text);
+    let said = replies::unpack_reply(arrived, &batch, text);
     tell_of_unpacking(stdout, stderr, arrived, &batch, said, text);
 }
 

@@ -16,9 +16,12 @@ pub loop-n-init : goal.loop-n-init
 loop-n-init c =
     let it = c.into_iter-n-iterator.result in
     let e : it.iter.rest.now ≡ c.args.text.now = search rules in
-    let none : 0 ≡ it.count = search rules in
-    (subst (λ (n : ℕ). Packs c.args.text.now c.put_word-first.new.out c.put_word-first.new.out (record { last = 0; end = c.put_word-first.result }) it.iter.rest.now n) none
-        (packs_start c.args.text.now it.iter.rest.now c.args.out.now _ c.put_word-first.result e c.requires.room c.put_word-first.ensures), refl, search rules)
+    let none : 0 ≡ it.count = search rules in (
+      subst (λ (n : ℕ). Packs c.args.text.now c.put_word-first.new.out c.put_word-first.new.out (record { last = 0; end = c.put_word-first.result }) it.iter.rest.now n) none
+          (packs_start c.args.text.now it.iter.rest.now c.args.out.now _ c.put_word-first.result e c.requires.room c.put_word-first.ensures),
+      refl,
+      search rules,
+    )
 
 pub pack_line-requires : goal.pack_line-requires
 pack_line-requires c =
