@@ -1,22 +1,22 @@
 -- Laws of the text of a batch: a line, the lines of the records so far, and what unpacking answers.
-use mathlib.Core.Path.{◌≡◌, refl, sym, ap, ap₂, ◌∙◌, subst}
+use mathlib.Core.Path.{◌≡◌, refl, sym, ap, ◌∙◌, subst}
 use mathlib.Core.List.{List, [], ◌∷◌, ◌++◌, append_assoc, map, map-append}
 use mathlib.Core.Bool.{Bool, true, false, cond, true≢false}
 use Prim.Native.Nat.{ℕ, ◌+◌, ◌*◌, ◌-◌, ◌^◌, ◌<◌, ◌≤◌}
 use native.Mathlib.Omega.{arith}
 use lib.Dec.{leb}
-use lib.ListN.{length, take, drop, set, length-append}
+use lib.ListN.{length, set, length-append}
 use lib.Seq.{length-sets}
 use borrow.Author.Tests.{le-leb, lt-leb}
 use borrow.Rule.Slice.PartMut.{mid_of, put_mid}
 use Rattle.wire.specs.Varints.{PutPost}
-use Rattle.wire.proofs.EncodingLaws.{sets_more, Two, two_length, put_both, put_none, put_same}
+use Rattle.wire.proofs.EncodingLaws.{Two, two_length, put_both, put_none, put_same}
 use Rattle.batch.specs.declared.chain.ChainError.{ChainError}
 use Rattle.batch.specs.Chain.{state_at, is_batch, Chain, ends, onto, chain_of}
 use Rattle.batch.proofs.ChainLaws.{chain_is, batch_size, Walk, walk_start, walk_all, walk_ending, walk_turn, walk_few}
 use Rattle.batch.proofs.UnpackingLaws.{state_short}
 use Rattle.console.specs.Output.{hex_text, HexPost}
-use Rattle.console.proofs.OutputLaws.{part_put}
+use Rattle.console.proofs.OutputLaws.{hex_length, hex_size, hex_line}
 use Rattle.std.specs.Prelude.{⊤, Result, Ok, Err, is_ok, IsOkAnd, MatchResult}
 use Rattle.exports.specs.declared.unpacking.UnpackError.{UnpackError}
 use Rattle.exports.specs.declared.unpacking.UnpackError.TheVariants.{Broken, TooLong}
@@ -25,33 +25,14 @@ use Rattle.exports.specs.Unpacking.{batch_text, unless_broken, unpacked_of, Unpa
 
 -- ---- a line
 
-hex_length : (l : List ℕ) → length (hex_text l) ≡ 2 * length l
-unfolding hex_text
-hex_length [] = refl
-hex_length (b ∷ l) = let e : length (hex_text l) ≡ 2 * length l = hex_length l in omega arith
-
 pub line_length : (s : List ℕ) → length (line_of s) ≡ 2 * length s + 1
 line_length s = omega (arith, length-append (hex_text s) (10 ∷ []), hex_length s)
-
-pub hex_size : {s out after : List ℕ} {k : ℕ} → HexPost s out k after → k ≡ 2 * length s
-hex_size {s} p = p.counts.1 ∙ ap (λ (l : List ℕ). length l) p.text ∙ hex_length s
 
 -- The digits were put into the part of the buffer from `at` on, which has m bytes.
 pub line_put : (out y s : List ℕ) (at k m : ℕ) → at + length (line_of s) ≤ length out → m ≡ length out - at → HexPost s (mid_of at m out) k y
     → PutPost out at (line_of s) (at + k + 1) (set (put_mid at m out y) (at + k) 10)
 line_put out y s at k m room e p =
-    let long = line_length s in
-    let count : k ≡ length (hex_text s) = p.counts.1 ∙ ap (λ (l : List ℕ). length l) p.text in
-    let size = hex_length s in
-    record {
-      next = omega arith;
-      output =
-          ap₂ (λ (o : List ℕ) (j : ℕ). set o (at + j) 10)
-          (part_put out y (hex_text s) at m (omega arith) (omega arith) (subst (λ (j : ℕ). take j y ≡ hex_text s) count p.text)
-          (subst (λ (j : ℕ). drop j y ≡ drop j (mid_of at m out)) count p.rest))
-          count
-          ∙ sets_more out at (hex_text s) (10 ∷ []);
-    }
+    record { next = omega (arith, hex_size p, line_length s); output = hex_line out y s at k m (omega (arith, line_length s)) (omega (arith, line_length s)) p }
 
 -- ---- the lines of the records so far
 
