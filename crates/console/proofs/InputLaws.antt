@@ -10,7 +10,7 @@ use native.Mathlib.Omega.{arith}
 use lib.ListN.{length, set, drop, take, get_or, length-drop, drop_of_length-le}
 use lib.Seq.{length-take-le, drop-cons, drop-drop, append_snoc, take-suc-set, drop-set-lt}
 use lib.Dec.{ltb}
-use borrow.Author.Tests.{le-ltb, ltb-true, ltb-false, eq-eqb, ne_eqb}
+use borrow.Author.Tests.{lt-ltb, le-ltb, ltb-true, ltb-false, eq-eqb, ne_eqb}
 use Rattle.std.specs.Char.{is_ascii_digit}
 use Rattle.std.specs.Counts.{IsPrefixLen}
 use Rattle.std.specs.List.{AllWithin, HoldsAt}
@@ -18,7 +18,7 @@ use Rattle.std.proofs.lemmas.Iterator.{index_from_first}
 use Rattle.std.proofs.lemmas.List.{take_all}
 use Rattle.std.specs.declared.ops.ControlFlow.{ControlFlow}
 use Rattle.std.specs.declared.ops.ControlFlow.TheVariants.{Continue, Break}
-use Rattle.console.specs.declared.input.StreamError.TheVariants.{Full}
+use Rattle.console.specs.declared.input.StreamError.TheVariants.{Failed, Full}
 use Rattle.console.specs.declared.input.Arrived.{Arrived}
 use Rattle.console.specs.Input.{Stream, so_far, reading_of, ArrivedIn, StreamPost, FrontOnly, up_to, decimal_from, decimal_of, below64, cons_to, byte_then, pairs_of, PairsPost, onto}
 
@@ -126,38 +126,40 @@ pairs_odd value [] h = let z : ⊥ = omega arith in absurd z
 pairs_odd value (a ∷ []) h = refl
 pairs_odd value (a ∷ b ∷ l) h = ap (byte_then (value a) (value b)) (pairs_odd value l (omega arith)) ∙ byte_none (value a) (value b)
 
--- The i-th pair of digits.
-module _ (value : ℕ → Option ℕ) (word : List ℕ) (i : ℕ) (h : 2 * i + 1 < length word) where
-  pair : pairs_of value (drop (2 * i) word) ≡ byte_then (value (get_or word (2 * i) 0)) (value (get_or word (2 * i + 1) 0)) (pairs_of value (drop (2 * (i + 1)) word))
-  unfolding pairs_of
-  pair =
-      let l : 2 * i < length word = omega arith in
-      ap (pairs_of value) (drop-cons word (2 * i) 0 l ∙ ap (λ (r : List ℕ). get_or word (2 * i) 0 ∷ r) (ap (λ (n : ℕ). drop n word) (sym (add-one (2 * i))) ∙ drop-cons word (2 * i + 1) 0 h))
-      ∙ ap (λ (n : ℕ). byte_then (value (get_or word (2 * i) 0)) (value (get_or word (2 * i + 1) 0)) (pairs_of value (drop n word))) (sym (add-one (2 * i + 1)) ∙ (let e : 2 * i + 1 + 1 ≡ 2 * (i + 1) = omega arith in e))
-
-  pub pair_high : None ≡ value (get_or word (2 * i) 0) → (done : List ℕ) → onto done (pairs_of value (drop (2 * i) word)) ≡ None
-  pair_high e done =
-      ap (onto done) (pair ∙ ap (λ (d : Option ℕ). byte_then d (value (get_or word (2 * i + 1) 0)) (pairs_of value (drop (2 * (i + 1)) word))) (sym e))
-
-  pub pair_low : None ≡ value (get_or word (2 * i + 1) 0) → (done : List ℕ) → onto done (pairs_of value (drop (2 * i) word)) ≡ None
-  pair_low e done =
-      ap (onto done)
-      (pair
-      ∙ ap (λ (d : Option ℕ). byte_then (value (get_or word (2 * i) 0)) d (pairs_of value (drop (2 * (i + 1)) word))) (sym e)
-      ∙ byte_low (value (get_or word (2 * i) 0)) (pairs_of value (drop (2 * (i + 1)) word)))
-
-  pub pair_next : (out : List ℕ) (a b : ℕ)
-      → i < length out
-      → Some a ≡ value (get_or word (2 * i) 0)
-      → Some b ≡ value (get_or word (2 * i + 1) 0)
-      → onto (take i out) (pairs_of value (drop (2 * i) word)) ≡ onto (take (i + 1) (set out i (a * 16 + b))) (pairs_of value (drop (2 * (i + 1)) word))
-  pair_next out a b room ea eb =
-      ap (onto (take i out)) (pair ∙ ap₂ (λ (m n : Option ℕ). byte_then m n (pairs_of value (drop (2 * (i + 1)) word))) (sym ea) (sym eb))
-      ∙ onto_stored out i (a * 16 + b) room (pairs_of value (drop (2 * (i + 1)) word))
-
-pub pairs_end : (value : ℕ → Option ℕ) (word done : List ℕ) (k : ℕ) → length word ≤ k → onto done (pairs_of value (drop k word)) ≡ Some done
+-- The first pair of digits of what is left.
+first_pair : (value : ℕ → Option ℕ) (pair rest : List ℕ) → length pair ≡ 2
+    → pairs_of value (pair ++ rest) ≡ byte_then (value (get_or pair 0 0)) (value (get_or pair 1 0)) (pairs_of value rest)
 unfolding pairs_of
-pairs_end value word done k h = ap (λ (l : List ℕ). onto done (pairs_of value l)) (drop_of_length-le word h) ∙ ap Some (append-nil done)
+first_pair value [] rest h = let z : ⊥ = omega arith in absurd z
+first_pair value (a ∷ []) rest h = let z : ⊥ = omega arith in absurd z
+first_pair value (a ∷ b ∷ []) rest h = refl
+first_pair value (a ∷ b ∷ c ∷ pair) rest h = let z : ⊥ = omega arith in absurd z
+
+module _ (value : ℕ → Option ℕ) (pair rest : List ℕ) {left : List ℕ} (e : left ≡ pair ++ rest) (two : length pair ≡ 2) where
+  byte_first : pairs_of value left ≡ byte_then (value (get_or pair 0 0)) (value (get_or pair 1 0)) (pairs_of value rest)
+  byte_first = ap (pairs_of value) e ∙ first_pair value pair rest two
+
+  pub pair_high : None ≡ value (get_or pair 0 0) → (done : List ℕ) → onto done (pairs_of value left) ≡ None
+  pair_high n done = ap (onto done) (byte_first ∙ ap (λ (d : Option ℕ). byte_then d (value (get_or pair 1 0)) (pairs_of value rest)) (sym n))
+
+  pub pair_low : None ≡ value (get_or pair 1 0) → (done : List ℕ) → onto done (pairs_of value left) ≡ None
+  pair_low n done =
+      ap (onto done)
+      (byte_first ∙ ap (λ (d : Option ℕ). byte_then (value (get_or pair 0 0)) d (pairs_of value rest)) (sym n) ∙ byte_low (value (get_or pair 0 0)) (pairs_of value rest))
+
+  pub pair_next : (out : List ℕ) (i a b : ℕ)
+      → i < length out
+      → Some a ≡ value (get_or pair 0 0)
+      → Some b ≡ value (get_or pair 1 0)
+      → onto (take i out) (pairs_of value left) ≡ onto (take (i + 1) (set out i (a * 16 + b))) (pairs_of value rest)
+  pair_next out i a b room ea eb =
+      ap (onto (take i out)) (byte_first ∙ ap₂ (λ (m n : Option ℕ). byte_then m n (pairs_of value rest)) (sym ea) (sym eb))
+      ∙ onto_stored out i (a * 16 + b) room (pairs_of value rest)
+
+pairs_end : (value : ℕ → Option ℕ) (rest done : List ℕ) → length rest ≡ 0 → onto done (pairs_of value rest) ≡ Some done
+unfolding pairs_of
+pairs_end value [] done h = ap Some (append-nil done)
+pairs_end value (b ∷ rest) done h = let z : ⊥ = omega arith in absurd z
 
 -- Where all cells from i on are as they were, so are those further on.
 drop_further : (out before : List ℕ) (i k : ℕ) → drop i out ≡ drop i before → drop (i + k) out ≡ drop (i + k) before
@@ -177,21 +179,49 @@ refused_free word out before i h e same = (
 )
 
 -- All pairs are read.
-pub pairs_done : (value : ℕ → Option ℕ) (word before out : List ℕ) (i n : ℕ)
+pub pairs_done : (value : ℕ → Option ℕ) (word before out rest : List ℕ) (i n : ℕ)
     → i ≡ n
-    → length word ≤ 2 * n
+    → length rest ≡ 0
     → n ≤ length out
-    → pairs_of value word ≡ onto (take i out) (pairs_of value (drop (2 * i) word))
+    → pairs_of value word ≡ onto (take i out) (pairs_of value rest)
     → drop i out ≡ drop i before
     → length out ≡ length before
     → PairsPost value word before (Some n) out
-pairs_done value word before out i n e l room whole rest same = (
-  subst (λ (k : ℕ). pairs_of value word ≡ onto (take k out) (pairs_of value (drop (2 * k) word))) e whole ∙ pairs_end value word (take n out) (2 * n) l,
-  (subst (λ (k : ℕ). drop k out ≡ drop k before) e rest, same),
+pairs_done value word before out rest i n e none room whole behind same = (
+  whole ∙ pairs_end value rest (take i out) none ∙ ap (λ (k : ℕ). Some (take k out)) e,
+  (subst (λ (k : ℕ). drop k out ≡ drop k before) e behind, same),
   (room, sym (length-take-le n out room)),
 )
 
 -- ---- a read
+
+-- What a read makes of a stream, case by case: the laws that docs/PORT.md names. They are for a reader; the check of `after_read` unfolds `reading_of` itself.
+pub reading_failed : {E : Type 0} (n len : ℕ) {got : Result ℕ E} {x : E} → got ≡ Err x → Break (Err Failed) ≡ reading_of n got len
+unfolding reading_of
+reading_failed {E} n len e = ap (λ (r : Result ℕ E). reading_of n r len) (sym e)
+
+module _ {E : Type 0} (n len k : ℕ) {got : Result ℕ E} (e : got ≡ Ok k) where
+  abbrev counted_by : Result ℕ E
+  counted_by = Ok k
+
+  counted_is : reading_of n counted_by len ≡ reading_of n got len
+  counted_is = ap (λ (x : Result ℕ E). reading_of n x len) (sym e)
+
+  pub reading_full : len ≤ n + k → Break (Err Full) ≡ reading_of n got len
+  unfolding reading_of
+  reading_full full = sym (rw (le-ltb (n + k) len full)) ∙ counted_is
+
+  pub reading_all : n + k < len → k ≡ 0 → Break (Ok n) ≡ reading_of n got len
+  unfolding reading_of
+  reading_all room end = sym (rw (lt-ltb (n + k) len room) (ap (λ (j : ℕ). so_far j n) end)) ∙ counted_is
+
+  pub reading_more : n + k < len → 0 < k → Continue (n + k) ≡ reading_of n got len
+  unfolding reading_of
+  reading_more room came = sym (rw (lt-ltb (n + k) len room) (next k came)) ∙ counted_is
+    where
+      next : (k : ℕ) → 0 < k → so_far k n ≡ Continue (n + k)
+      next zero h = let z : ⊥ = omega arith in absurd z
+      next (suc k) h = refl
 
 -- More bytes than before have come, and the buffer has room for others; or what is known of the stream is what `read_all` promises.
 abbrev pub Goes : ℕ → List ℕ → ControlFlow Stream ℕ → Type 0

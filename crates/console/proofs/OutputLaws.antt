@@ -1,7 +1,7 @@
 -- Laws of what a program says, and of hexadecimal.
 use mathlib.Core.Path.{◌≡◌, refl, sym, ap, ap₂, ◌∙◌, subst}
 use mathlib.Core.List.{List, [], ◌∷◌, ◌++◌, append_assoc, append-nil}
-use Prim.Native.Nat.{ℕ, ◌+◌, ◌*◌, ◌/◌, ◌%◌, ◌<◌, ◌≤◌}
+use Prim.Native.Nat.{ℕ, suc, ◌+◌, ◌*◌, ◌/◌, ◌%◌, ◌<◌, ◌≤◌}
 use native.Mathlib.Numerals.{add-one}
 use native.Mathlib.Omega.{arith}
 use lib.ListN.{length, set, drop, take, get_or, drop_of_length-le, length-drop, length-set, take-append-drop}
@@ -138,3 +138,31 @@ spelling_end bytes before out i e room w =
   where
     fits : 2 * i ≤ length out
     fits = omega (arith, w.size)
+
+-- ---- for callers: how long it is, and a line of it
+
+pub hex_length : (bytes : List ℕ) → length (hex_text bytes) ≡ 2 * length bytes
+unfolding hex_text
+hex_length [] = refl
+hex_length (b ∷ l) = let e = hex_length l in omega arith
+
+pub hex_size : {bytes out after : List ℕ} {k : ℕ} → HexPost bytes out k after → k ≡ 2 * length bytes
+hex_size {bytes} p = p.counts.1 ∙ ap (λ (l : List ℕ). length l) p.text ∙ hex_length bytes
+
+-- A byte behind others that were put.
+set_behind : (out s : List ℕ) (at v : ℕ) → set (sets out at s) (at + length s) v ≡ sets out at (s ++ v ∷ [])
+set_behind out [] at v = ap (λ (k : ℕ). set out k v) (let e : at + 0 ≡ at = omega arith in e)
+set_behind out (a ∷ s) at v =
+    ap (λ (k : ℕ). set (sets (set out at a) (suc at) s) k v) (let e : at + suc (length s) ≡ suc at + length s = omega arith in e)
+    ∙ set_behind (set out at a) s (suc at) v
+
+-- The digits were put into the part of a buffer from `at` on, which has m bytes, and a newline behind them.
+pub hex_line : (out after bytes : List ℕ) (at k m : ℕ) → at + m ≤ length out → 2 * length bytes ≤ m → HexPost bytes (mid_of at m out) k after
+    → set (put_mid at m out after) (at + k) 10 ≡ sets out at (hex_text bytes ++ 10 ∷ [])
+hex_line out after bytes at k m inside room p =
+    let size : k ≡ length (hex_text bytes) = p.counts.1 ∙ ap (λ (l : List ℕ). length l) p.text in
+    ap₂ (λ (o : List ℕ) (j : ℕ). set o (at + j) 10)
+    (part_put out after (hex_text bytes) at m inside (omega (arith, hex_length bytes)) (subst (λ (j : ℕ). take j after ≡ hex_text bytes) size p.text)
+    (subst (λ (j : ℕ). drop j after ≡ drop j (mid_of at m out)) size p.rest))
+    size
+    ∙ set_behind out (hex_text bytes) at 10

@@ -3,6 +3,7 @@ ghost use Rattle.std.specs.Prelude.{◌≡◌, ◌<◌, ◌≤◌, ◌+◌, ℕ,
 ghost use Rattle.std.specs.Iterator.{at_most};
 ghost use Rattle.console.specs.Input.{reading_of, ReadPost, CasesPost, up_to, PieceOf, digit_of, decimal_of, below64, Digits, Gives, PairsPost};
 
+use crate::output::complain;
 use std::io;
 use std::io::{Print, Read};
 use std::ops::ControlFlow;
@@ -67,7 +68,7 @@ pub fn read_all(reader: &mut impl Read, buf: &mut [u8]) -> Arrived
 pub fn read_cases(
     stdin: &mut impl Read,
     stderr: &impl Print,
-    program: &str,
+    program: &[u8],
     buf: &mut [u8],
 ) -> usize
     ensures { CasesPost buf.old result buf.new }
@@ -75,7 +76,11 @@ pub fn read_cases(
     match read_all(stdin, buf).stream {
         Ok(n) => n,
         Err(_) => {
-            let _ = println!(stderr; "{program}: standard input cannot be read, or is too long");
+            let _ = complain(
+                stderr,
+                program,
+                b": standard input cannot be read, or is too long\n",
+            );
             0
         }
     }
@@ -168,9 +173,9 @@ pub fn read_pairs<F: Fn(u8) -> Option<u8> + Drop>(
     if out.len() < n || word.len() % 2 == 1 {
         return None;
     }
-    for i in 0..n {
-        let high = digit(word[2 * i])?;
-        let low = digit(word[2 * i + 1])?;
+    for (i, pair) in word.chunks_exact(2).enumerate() {
+        let high = digit(pair[0])?;
+        let low = digit(pair[1])?;
         out[i] = high * 16 + low;
     }
     Some(n)

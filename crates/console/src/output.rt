@@ -4,6 +4,7 @@ ghost use Rattle.std.specs.Prelude.{◌≡◌, ◌*◌, ◌≤◌, ◌<◌, leng
 ghost use Rattle.std.specs.Counts.{IsPrefixLen};
 ghost use Rattle.console.specs.Output.{size_of, all_are, widened_of, hex_digit_ascii, HexPost};
 
+use std::io;
 use std::io::Print;
 
 // What a program says, at the front of a slice that is lent with it: so many bytes for standard output, or so many of a message for standard error. Not a
@@ -25,11 +26,7 @@ pub fn all_are(s: &[u8], b: u8) -> bool
 pub fn widened(v: u32) -> u64
     ensures { result ≡ widened_of v }
 {
-    if v < 0x8000_0000 {
-        u64::from(v)
-    } else {
-        u64::from(v) + 0xffff_ffff_0000_0000
-    }
+    i64::from(v.cast_signed()).cast_unsigned()
 }
 
 fn glyph(d: u8) -> u8
@@ -44,21 +41,28 @@ pub fn hex(bytes: &[u8], out: &mut [u8]) -> usize
     requires { 2 * length bytes.now ≤ length out.old }
     ensures { HexPost bytes.now out.old result out.new }
 {
-    for i in 0..bytes.len() {
-        out[2 * i] = glyph(bytes[i] / 16);
-        out[2 * i + 1] = glyph(bytes[i] % 16);
+    // By the place, and not over `out.chunks_exact_mut(2)`: no contract says what a slice that is lent to it ends as.
+    for (i, b) in bytes.iter().enumerate() {
+        out[2 * i] = glyph(b / 16);
+        out[2 * i + 1] = glyph(b % 16);
     }
     2 * bytes.len()
 }
 
+// Says on standard error what is wrong with a program's input or output. The name is bytes, which need be no UTF-8, so it is not a text for `fmt`.
+pub(crate) fn complain(stderr: &impl Print, program: &[u8], what: &[u8]) -> io::Result<()> {
+    stderr.write_all(program)?;
+    stderr.write_all(what)
+}
+
 // Says it. Where standard output cannot be written, the program of this name says so on standard error. What reaches a descriptor no contract can say.
-pub fn say(stdout: &impl Print, stderr: &impl Print, program: &str, said: Said, text: &[u8])
+pub fn say(stdout: &impl Print, stderr: &impl Print, program: &[u8], said: Said, text: &[u8])
     requires { IsPrefixLen (size_of said) text.now }
 {
     match said {
         Said::Out(n) => {
             if stdout.write_all(&text[..n]).is_err() {
-                let _ = println!(stderr; "{program}: standard output cannot be written");
+                let _ = complain(stderr, program, b": standard output cannot be written\n");
             }
         }
         Said::Err(n) => {

@@ -23,14 +23,15 @@ pub fn read_value(word: &[u8]) -> Option<u32>
     u32::try_from(read_number(word)?).ok()
 }
 
-// A number of 32 bits: 0 where the word is none. No list has the precision 0.
+// A number of 32 bits: 0 where the word is none. No list has the precision 0, so that 0 is refused as a word would be that is no number. `read_value` tells them
+// apart; a program that replays cases would make 0 of `None` in each call.
 pub fn precision(word: &[u8]) -> u32
     ensures { result ≡ unwrap_or (below32 (decimal_of word.now)) 0 }
 {
     read_value(word).unwrap_or(0)
 }
 
-// A number of 64 bits: 0 where the word is none.
+// A number of 64 bits: 0 where the word is none. `read_number` tells them apart, as above.
 pub fn number(word: &[u8]) -> u64
     ensures { result ≡ unwrap_or (below64 (decimal_of word.now)) 0 }
 {
@@ -41,6 +42,7 @@ pub fn number(word: &[u8]) -> u64
 fn read_values(word: &[u8], out: &mut [u32]) -> Option<usize>
     ensures { ListedPost (values_in (length out.old) word.now) word.now out.old result out.new }
 {
+    // Not by `enumerate`: the count is the answer, too.
     let mut n: usize = 0;
     for piece in Pieces::new(word, b',') {
         if out.len() <= n {

@@ -1,13 +1,13 @@
 -- Laws of base64: characters and their bits, three bytes stored, the groups of a word.
-use mathlib.Core.Path.{◌≡◌, refl, sym, ap, ap₂, ◌∙◌}
+use mathlib.Core.Path.{◌≡◌, refl, sym, ap, ◌∙◌}
 use mathlib.Core.List.{List, [], ◌∷◌, ◌++◌, append_assoc}
 use mathlib.Core.Bool.{Bool, cond}
 use Rattle.std.specs.Prelude.{Option, Some, None, MatchOption}
 use mathlib.Core.Logic.{◌≢◌}
-use Prim.Native.Nat.{ℕ, suc, ◌+◌, ◌%◌, ◌<◌, ◌≤◌}
+use Prim.Native.Nat.{ℕ, ◌+◌, ◌%◌, ◌<◌, ◌≤◌}
 use native.Mathlib.Omega.{arith}
-use lib.ListN.{length, take, drop, get_or, drop_of_length-le}
-use lib.Seq.{sets, sets-eq, length-sets, drop-cons, take-append-add, take-append-le, length-take-le}
+use lib.ListN.{length, take, drop, get_or}
+use lib.Seq.{sets, sets-eq, length-sets, take-append-add, take-append-le, length-take-le}
 use borrow.Author.Tests.{lt-ltb, le-ltb, eq-eqb, ne_eqb}
 use Rattle.std.specs.List.{AllWithin, HoldsAt}
 use Rattle.console.specs.Input.{up_to, onto}
@@ -61,64 +61,55 @@ module _ (out : List ℕ) (n v k unit : ℕ) where
 
 -- ---- groups
 
-four_of : (word : List ℕ) (at : ℕ) → at + 4 ≤ length word
-    → drop at word ≡ get_or word at 0 ∷ get_or word (at + 1) 0 ∷ get_or word (at + 2) 0 ∷ get_or word (at + 3) 0 ∷ drop (at + 4) word
-four_of word at h =
-    let e : suc at ≡ at + 1 = omega arith in
-    let f : suc (at + 1) ≡ at + 2 = omega arith in
-    let g : suc (at + 2) ≡ at + 3 = omega arith in
-    let i : suc (at + 3) ≡ at + 4 = omega arith in
-    let one : drop (at + 3) word ≡ get_or word (at + 3) 0 ∷ drop (at + 4) word = drop-cons word (at + 3) 0 (omega arith) ∙ ap (λ (k : ℕ). get_or word (at + 3) 0 ∷ drop k word) i in
-    let two : drop (at + 2) word ≡ get_or word (at + 2) 0 ∷ get_or word (at + 3) 0 ∷ drop (at + 4) word =
-    drop-cons word (at + 2) 0 (omega arith) ∙ ap (λ (k : ℕ). get_or word (at + 2) 0 ∷ drop k word) g ∙ ap (λ (l : List ℕ). get_or word (at + 2) 0 ∷ l) one in
-    let three : drop (at + 1) word ≡ get_or word (at + 1) 0 ∷ get_or word (at + 2) 0 ∷ get_or word (at + 3) 0 ∷ drop (at + 4) word =
-    drop-cons word (at + 1) 0 (omega arith) ∙ ap (λ (k : ℕ). get_or word (at + 1) 0 ∷ drop k word) f ∙ ap (λ (l : List ℕ). get_or word (at + 1) 0 ∷ l) two in
-    drop-cons word at 0 (omega arith) ∙ ap (λ (k : ℕ). get_or word at 0 ∷ drop k word) e ∙ ap (λ (l : List ℕ). get_or word at 0 ∷ l) three
+-- The last four characters.
+module _ (group : List ℕ) (h : length group ≡ 4) where
+  last_four : base64_of group ≡ last_group (get_or group 0 0) (get_or group 1 0) (get_or group 2 0) (get_or group 3 0)
+  unfolding base64_of
+  last_four = go group h
+    where
+      go : (l : List ℕ) → length l ≡ 4 → base64_of l ≡ last_group (get_or l 0 0) (get_or l 1 0) (get_or l 2 0) (get_or l 3 0)
+      go [] h = let z : ⊥ = omega arith in absurd z
+      go (a ∷ []) h = let z : ⊥ = omega arith in absurd z
+      go (a ∷ b ∷ []) h = let z : ⊥ = omega arith in absurd z
+      go (a ∷ b ∷ c ∷ []) h = let z : ⊥ = omega arith in absurd z
+      go (a ∷ b ∷ c ∷ d ∷ []) h = refl
+      go (a ∷ b ∷ c ∷ d ∷ e ∷ l) h = let z : ⊥ = omega arith in absurd z
 
-module _ (word : List ℕ) (at : ℕ) where
-  -- The last four characters.
-  module _ (h : length word ≡ at + 4) where
-    last_four : base64_of (drop at word) ≡ last_group (get_or word at 0) (get_or word (at + 1) 0) (get_or word (at + 2) 0) (get_or word (at + 3) 0)
-    unfolding base64_of
-    last_four =
-        let over : length word ≤ at + 4 = omega arith in
-        ap base64_of
-        (four_of word at (omega arith)
-        ∙ ap (λ (l : List ℕ). get_or word at 0 ∷ get_or word (at + 1) 0 ∷ get_or word (at + 2) 0 ∷ get_or word (at + 3) 0 ∷ l) (drop_of_length-le word over))
+  pub last_three : (v : Option ℕ) → get_or group 3 0 ≢ 61
+      → v ≡ bits_of (sextet_of (get_or group 0 0)) (sextet_of (get_or group 1 0)) (sextet_of (get_or group 2 0)) (sextet_of (get_or group 3 0))
+      → end_of 3 1 v ≡ base64_of group
+  unfolding last_group
+  last_three v n e = ap (end_of 3 1) e ∙ sym (last_four ∙ rw (ne_eqb (get_or group 3 0) 61 n))
 
-    pub last_three : (v : Option ℕ) → get_or word (at + 3) 0 ≢ 61
-        → v ≡ bits_of (sextet_of (get_or word at 0)) (sextet_of (get_or word (at + 1) 0)) (sextet_of (get_or word (at + 2) 0)) (sextet_of (get_or word (at + 3) 0))
-        → end_of 3 1 v ≡ base64_of (drop at word)
-    unfolding last_group
-    last_three v n e = ap (end_of 3 1) e ∙ sym (last_four ∙ rw (ne_eqb (get_or word (at + 3) 0) 61 n))
+  pub last_two : (v : Option ℕ) → get_or group 3 0 ≡ 61 → get_or group 2 0 ≢ 61
+      → v ≡ bits_of (sextet_of (get_or group 0 0)) (sextet_of (get_or group 1 0)) (sextet_of (get_or group 2 0)) (sextet_of 65)
+      → end_of 2 256 v ≡ base64_of group
+  unfolding last_group
+  last_two v e n p =
+      ap (end_of 2 256) (p ∙ ap (bits_of (sextet_of (get_or group 0 0)) (sextet_of (get_or group 1 0)) (sextet_of (get_or group 2 0))) zero_value)
+      ∙ sym (last_four ∙ rw (eq-eqb (get_or group 3 0) 61 e, ne_eqb (get_or group 2 0) 61 n))
 
-    pub last_two : (v : Option ℕ) → get_or word (at + 3) 0 ≡ 61 → get_or word (at + 2) 0 ≢ 61
-        → v ≡ bits_of (sextet_of (get_or word at 0)) (sextet_of (get_or word (at + 1) 0)) (sextet_of (get_or word (at + 2) 0)) (sextet_of 65)
-        → end_of 2 256 v ≡ base64_of (drop at word)
-    unfolding last_group
-    last_two v e n p =
-        ap (end_of 2 256) (p ∙ ap (bits_of (sextet_of (get_or word at 0)) (sextet_of (get_or word (at + 1) 0)) (sextet_of (get_or word (at + 2) 0))) zero_value)
-        ∙ sym (last_four ∙ rw (eq-eqb (get_or word (at + 3) 0) 61 e, ne_eqb (get_or word (at + 2) 0) 61 n))
+  pub last_one : (v : Option ℕ) → get_or group 3 0 ≡ 61 → get_or group 2 0 ≡ 61
+      → v ≡ bits_of (sextet_of (get_or group 0 0)) (sextet_of (get_or group 1 0)) (sextet_of 65) (sextet_of 65)
+      → end_of 1 65536 v ≡ base64_of group
+  unfolding last_group
+  last_one v e f p =
+      ap (end_of 1 65536) (p ∙ ap (λ (z : Option ℕ). bits_of (sextet_of (get_or group 0 0)) (sextet_of (get_or group 1 0)) z z) zero_value)
+      ∙ sym (last_four ∙ rw (eq-eqb (get_or group 3 0) 61 e, eq-eqb (get_or group 2 0) 61 f))
 
-    pub last_one : (v : Option ℕ) → get_or word (at + 3) 0 ≡ 61 → get_or word (at + 2) 0 ≡ 61
-        → v ≡ bits_of (sextet_of (get_or word at 0)) (sextet_of (get_or word (at + 1) 0)) (sextet_of 65) (sextet_of 65)
-        → end_of 1 65536 v ≡ base64_of (drop at word)
-    unfolding last_group
-    last_one v e f p =
-        ap (end_of 1 65536) (p ∙ ap (λ (z : Option ℕ). bits_of (sextet_of (get_or word at 0)) (sextet_of (get_or word (at + 1) 0)) z z) zero_value)
-        ∙ sym (last_four ∙ rw (eq-eqb (get_or word (at + 3) 0) 61 e, eq-eqb (get_or word (at + 2) 0) 61 f))
-
-  -- Four characters that are not the last.
-  module _ (h : at + 4 < length word) (v : Option ℕ)
-      (p : v ≡ bits_of (sextet_of (get_or word at 0)) (sextet_of (get_or word (at + 1) 0)) (sextet_of (get_or word (at + 2) 0)) (sextet_of (get_or word (at + 3) 0))) where
-    pub next_four : base64_of (drop at word) ≡ group_then v (base64_of (drop (at + 4) word))
-    unfolding base64_of
-    next_four =
-        let e : drop (at + 4) word ≡ get_or word (at + 4) 0 ∷ drop (suc (at + 4)) word = drop-cons word (at + 4) 0 h in
-        ap base64_of
-        (four_of word at (omega arith)
-        ∙ ap (λ (l : List ℕ). get_or word at 0 ∷ get_or word (at + 1) 0 ∷ get_or word (at + 2) 0 ∷ get_or word (at + 3) 0 ∷ l) e)
-        ∙ ap₂ (λ (x : Option ℕ) (l : List ℕ). group_then x (base64_of l)) (sym p) (sym e)
+-- Four characters that are not the last.
+pub next_four : (group rest last : List ℕ) (v : Option ℕ) → length group ≡ 4 → length last ≡ 4
+    → v ≡ bits_of (sextet_of (get_or group 0 0)) (sextet_of (get_or group 1 0)) (sextet_of (get_or group 2 0)) (sextet_of (get_or group 3 0))
+    → base64_of ((group ++ rest) ++ last) ≡ group_then v (base64_of (rest ++ last))
+unfolding base64_of
+next_four [] rest last v h m p = let z : ⊥ = omega arith in absurd z
+next_four (a ∷ []) rest last v h m p = let z : ⊥ = omega arith in absurd z
+next_four (a ∷ b ∷ []) rest last v h m p = let z : ⊥ = omega arith in absurd z
+next_four (a ∷ b ∷ c ∷ []) rest last v h m p = let z : ⊥ = omega arith in absurd z
+next_four (a ∷ b ∷ c ∷ d ∷ []) [] [] v h m p = let z : ⊥ = omega arith in absurd z
+next_four (a ∷ b ∷ c ∷ d ∷ []) [] (e ∷ last) v h m p = ap (λ (x : Option ℕ). group_then x (base64_of (e ∷ last))) (sym p)
+next_four (a ∷ b ∷ c ∷ d ∷ []) (e ∷ rest) last v h m p = ap (λ (x : Option ℕ). group_then x (base64_of (e ∷ rest ++ last))) (sym p)
+next_four (a ∷ b ∷ c ∷ d ∷ e ∷ group) rest last v h m p = let z : ⊥ = omega arith in absurd z
 
 -- A group was put.
 pub group_more : (out after rest : List ℕ) (n v : ℕ) → n + 3 ≤ length out → after ≡ sets out n (three_of v)

@@ -28,7 +28,7 @@ use Rattle.exports.specs.declared.unpacking.UnpackError.{UnpackError}
 use Rattle.exports.specs.declared.unpacking.UnpackError.TheVariants.{Broken as Cut, TooLong}
 use Rattle.exports.specs.Packing.{packing_of, packed_of, PackedPost}
 use Rattle.exports.specs.Unpacking.{batch_text, unless_broken, unpacked_of, put_of, UnpackedPost}
-use Rattle.exports.specs.Replies.{line_message, packed_says, lines_say, thousands, pack_says, PackReply, chain_message, unpacked_says, batch_says, unpack_says, UnpackReply}
+use Rattle.exports.specs.Replies.{line_message, packed_says, lines_say, thousands, pack_says, PackReply, chain_message, unpacked_says, batch_says, unpack_says}
 use Rattle.exports.proofs.PackLaws.{made_bytes, made_counts}
 
 -- ---- messages
@@ -101,7 +101,7 @@ too_long_said buf {spare} {before} {left} {after} {r} e p =
 
 -- ---- unpack
 
-module _ {batch cells before : List ℕ} {r : Result ℕ UnpackError} {indices now : List ℕ} (size : length before ≡ 1048576) (post : UnpackedPost batch cells before r indices now) where
+module _ {batch before : List ℕ} {r : Result ℕ UnpackError} {now : List ℕ} (size : length before ≡ 1048576) (post : UnpackedPost batch before r now) where
   says_so : batch_says batch ≡ unpacked_says r (batch_text batch)
   unfolding batch_says
   says_so = ap (λ (k : ℕ). unpacked_says (unpacked_of k batch) (batch_text batch)) (sym size) ∙ ap (λ (x : Result ℕ UnpackError). unpacked_says x (batch_text batch)) (sym post.answer)
@@ -111,10 +111,6 @@ module _ {batch cells before : List ℕ} {r : Result ℕ UnpackError} {indices n
 
   now_as : {known : Result ℕ UnpackError} → r ≡ known → now ≡ sets before 0 (put_of known (batch_text batch))
   now_as e = post.output ∙ ap (λ (x : Result ℕ UnpackError). sets before 0 (put_of x (batch_text batch))) e
-
-  cells_kept : length indices ≡ length cells → {w : Saying} {said : Said} {after : List ℕ} → batch_says batch ≡ w → SaidPost w before said after
-      → UnpackReply (batch_says batch) cells before said indices after
-  cells_kept free {said = said} {after} e s = record { said = subst (λ (x : Saying). SaidPost x before said after) (sym e) s; free = free }
 
   -- The text is that of the answer's length, and fits.
   text_fits : (n : ℕ) → r ≡ Ok n → (n ≡ length (batch_text batch)) × (length (batch_text batch) ≤ length before)
@@ -128,14 +124,16 @@ module _ {batch cells before : List ℕ} {r : Result ℕ UnpackError} {indices n
       by (Ok x) false f g = absurd (let z : ◌≡◌ {A = ℕ} 0 1 = cc in omega arith)
       by (Err error) t f g = absurd (let z : ◌≡◌ {A = ℕ} 0 1 = cc in omega arith)
 
-  pub text_said : (n : ℕ) → length indices ≡ length cells → r ≡ Ok n → UnpackReply (batch_says batch) cells before (Out n) indices now
-  text_said n free e = cells_kept free (says_as e) (let f = text_fits n e in said_out before (batch_text batch) f.1 f.0 (now_as e))
+  pub text_said : (n : ℕ) → r ≡ Ok n → SaidPost (batch_says batch) before (Out n) now
+  text_said n e =
+      let f = text_fits n e in
+      subst (λ (w : Saying). SaidPost w before (Out n) now) (sym (says_as e)) (said_out before (batch_text batch) f.1 f.0 (now_as e))
 
   -- Nothing was put.
-  pub message_said : {known : Result ℕ UnpackError} {w : Saying} {said : Said} {after : List ℕ} → length indices ≡ length cells → r ≡ known
-      → unpacked_says known (batch_text batch) ≡ w → put_of known (batch_text batch) ≡ [] → SaidPost w now said after → UnpackReply (batch_says batch) cells before said indices after
-  message_said {w = w} {said} {after} free e f none s =
-      cells_kept free (says_as e ∙ f) (subst (λ (l : List ℕ). SaidPost w l said after) (now_as e ∙ ap (sets before 0) none) s)
+  pub message_said : {known : Result ℕ UnpackError} {w : Saying} {said : Said} {after : List ℕ} → r ≡ known
+      → unpacked_says known (batch_text batch) ≡ w → put_of known (batch_text batch) ≡ [] → SaidPost w now said after → SaidPost (batch_says batch) before said after
+  message_said {w = w} {said} {after} e f none s =
+      subst (λ (x : Saying). SaidPost x before said after) (sym (says_as e ∙ f)) (subst (λ (l : List ℕ). SaidPost w l said after) (now_as e ∙ ap (sets before 0) none) s)
 
   pub broken_records : (records : ℕ) (error : ChainError) → r ≡ Err (Cut records error) → records ≤ 65536
   unfolding unpacked_of
@@ -147,12 +145,9 @@ module _ {batch cells before : List ℕ} {r : Result ℕ UnpackError} {indices n
       by (Ok x) false g = absurd (let z : ◌≡◌ {A = ℕ} 0 1 = cc in omega arith)
       by (Err other) t g = let z : records ≡ length (chain_of batch).indices = cc in omega (arith, chain_short batch)
 
-pub unpack_said : (buf : List ℕ) {stream known : Stream} {cells before indices after : List ℕ} {r : Said} → stream ≡ known → UnpackReply (unpack_says known buf) cells before r indices after
-    → UnpackReply (unpack_says stream buf) cells before r indices after
-unpack_said buf {cells = cells} {before} {indices} {after} {r} e p = subst (λ (x : Stream). UnpackReply (unpack_says x buf) cells before r indices after) (sym e) p
-
-pub unpack_complained : {w : Saying} {cells before after : List ℕ} {r : Said} → SaidPost w before r after → UnpackReply w cells before r cells after
-unpack_complained s = record { said = s; free = refl }
+pub unpack_said : (buf : List ℕ) {stream known : Stream} {before after : List ℕ} {r : Said} → stream ≡ known → SaidPost (unpack_says known buf) before r after
+    → SaidPost (unpack_says stream buf) before r after
+unpack_said buf {before = before} {after} {r} e p = subst (λ (x : Stream). SaidPost (unpack_says x buf) before r after) (sym e) p
 
 -- A buffer that is full is no batch, by its length: 24.
 pub full_says : (buf : List ℕ) → length buf ≡ 65537 → batch_says buf ≡ err (chain_message 0 NoBatch)
@@ -167,6 +162,5 @@ full_says buf e =
     (batch_text buf))
     (chain_is buf long)
 
-pub full_said : (buf : List ℕ) {cells before indices after : List ℕ} {r : Said} → length buf ≡ 65537 → UnpackReply (batch_says buf) cells before r indices after
-    → UnpackReply (err (chain_message 0 NoBatch)) cells before r indices after
-full_said buf {cells} {before} {indices} {after} {r} size p = subst (λ (w : Saying). UnpackReply w cells before r indices after) (full_says buf size) p
+pub full_said : (buf : List ℕ) {before after : List ℕ} {r : Said} → length buf ≡ 65537 → SaidPost (batch_says buf) before r after → SaidPost (err (chain_message 0 NoBatch)) before r after
+full_said buf {before} {after} {r} size p = subst (λ (w : Saying). SaidPost w before r after) (full_says buf size) p

@@ -1,25 +1,23 @@
--- Laws of the text of a batch: a line, the lines of the first k records, and what unpacking answers.
-use mathlib.Core.Path.{◌≡◌, refl, sym, ap, ap₂, ◌∙◌, subst}
+-- Laws of the text of a batch: a line, the lines of the records so far, and what unpacking answers.
+use mathlib.Core.Path.{◌≡◌, refl, sym, ap, ◌∙◌, subst}
 use mathlib.Core.List.{List, [], ◌∷◌, ◌++◌, append_assoc, map, map-append}
 use mathlib.Core.Bool.{Bool, true, false, cond, true≢false}
-use Prim.Native.Nat.{ℕ, ◌+◌, ◌*◌, ◌-◌, ◌<◌, ◌≤◌}
-use native.Mathlib.Numerals.{add-one}
+use Prim.Native.Nat.{ℕ, ◌+◌, ◌*◌, ◌-◌, ◌^◌, ◌<◌, ◌≤◌}
 use native.Mathlib.Omega.{arith}
 use lib.Dec.{leb}
-use lib.ListN.{length, take, drop, set, get_or, length-append, take-append-drop}
-use lib.Seq.{sets, take-suc, take_all}
+use lib.ListN.{length, set, length-append}
+use lib.Seq.{length-sets}
 use borrow.Author.Tests.{le-leb, lt-leb}
 use borrow.Rule.Slice.PartMut.{mid_of, put_mid}
 use Rattle.wire.specs.Varints.{PutPost}
-use Rattle.wire.proofs.EncodingLaws.{sets_more, Two}
+use Rattle.wire.proofs.EncodingLaws.{Two, two_length, put_both, put_none, put_same}
 use Rattle.batch.specs.declared.chain.ChainError.{ChainError}
-use Rattle.batch.specs.declared.unpacking.Walked.{Walked}
-use Rattle.batch.specs.Chain.{state_at, is_batch, Chain, chain_of}
-use Rattle.batch.specs.Unpacking.{WalkedPost}
-use Rattle.batch.proofs.ChainLaws.{chain_is, batch_size}
+use Rattle.batch.specs.Chain.{state_at, is_batch, Chain, ends, onto, chain_of}
+use Rattle.batch.proofs.ChainLaws.{chain_is, batch_size, Walk, walk_start, walk_all, walk_ending, walk_turn, walk_few}
+use Rattle.batch.proofs.UnpackingLaws.{state_short}
 use Rattle.console.specs.Output.{hex_text, HexPost}
-use Rattle.console.proofs.OutputLaws.{part_put}
-use Rattle.std.specs.Prelude.{⊤, Result, Ok, Err, is_ok}
+use Rattle.console.proofs.OutputLaws.{hex_length, hex_size, hex_line}
+use Rattle.std.specs.Prelude.{⊤, Result, Ok, Err, is_ok, IsOkAnd, MatchResult}
 use Rattle.exports.specs.declared.unpacking.UnpackError.{UnpackError}
 use Rattle.exports.specs.declared.unpacking.UnpackError.TheVariants.{Broken, TooLong}
 use Rattle.exports.specs.Text.{line_of, text_of}
@@ -27,35 +25,19 @@ use Rattle.exports.specs.Unpacking.{batch_text, unless_broken, unpacked_of, Unpa
 
 -- ---- a line
 
-hex_length : (l : List ℕ) → length (hex_text l) ≡ 2 * length l
-unfolding hex_text
-hex_length [] = refl
-hex_length (b ∷ l) = let e : length (hex_text l) ≡ 2 * length l = hex_length l in omega arith
-
 pub line_length : (s : List ℕ) → length (line_of s) ≡ 2 * length s + 1
 line_length s = omega (arith, length-append (hex_text s) (10 ∷ []), hex_length s)
-
-pub hex_size : {s out after : List ℕ} {k : ℕ} → HexPost s out k after → k ≡ 2 * length s
-hex_size {s} p = p.counts.1 ∙ ap (λ (l : List ℕ). length l) p.text ∙ hex_length s
 
 -- The digits were put into the part of the buffer from `at` on, which has m bytes.
 pub line_put : (out y s : List ℕ) (at k m : ℕ) → at + length (line_of s) ≤ length out → m ≡ length out - at → HexPost s (mid_of at m out) k y
     → PutPost out at (line_of s) (at + k + 1) (set (put_mid at m out y) (at + k) 10)
 line_put out y s at k m room e p =
-    let long = line_length s in
-    let count : k ≡ length (hex_text s) = p.counts.1 ∙ ap (λ (l : List ℕ). length l) p.text in
-    let size = hex_length s in
-    record {
-      next = omega arith;
-      output =
-          ap₂ (λ (o : List ℕ) (j : ℕ). set o (at + j) 10)
-          (part_put out y (hex_text s) at m (omega arith) (omega arith) (subst (λ (j : ℕ). take j y ≡ hex_text s) count p.text)
-          (subst (λ (j : ℕ). drop j y ≡ drop j (mid_of at m out)) count p.rest))
-          count
-          ∙ sets_more out at (hex_text s) (10 ∷ []);
-    }
+    record { next = omega (arith, hex_size p, line_length s); output = hex_line out y s at k m (omega (arith, line_length s)) (omega (arith, line_length s)) p }
 
--- ---- the lines of the first k records
+-- ---- the lines of the records so far
+
+no_error : {x : Result ⊤ ChainError} {e : ChainError} → x ≡ Ok tt → x ≡ Err e → ⊥
+no_error whole broken = true≢false (sym (ap is_ok whole) ∙ ap is_ok broken)
 
 text_append : (a b : List (List ℕ)) → text_of (a ++ b) ≡ text_of a ++ text_of b
 unfolding text_of
@@ -66,92 +48,149 @@ text_one : (s : List ℕ) → text_of (s ∷ []) ≡ line_of s
 unfolding text_of
 text_one s = refl
 
-pub text_none : text_of [] ≡ []
+text_none : text_of [] ≡ []
 unfolding text_of
 text_none = refl
 
-module _ (batch indices : List ℕ) where
-  abbrev lines_to : ℕ → List ℕ
-  lines_to k = text_of (map (state_at batch) (take k indices))
+abbrev lines : List ℕ → List ℕ → List ℕ
+lines batch indices = text_of (map (state_at batch) indices)
 
-  pub lines_next : (k : ℕ) → k < length indices → Two (lines_to (k + 1)) (lines_to k) (line_of (state_at batch (get_or indices k 0)))
-  lines_next k h =
+-- One line more.
+lines_next : (batch done : List ℕ) (i : ℕ) → Two (lines batch (done ++ i ∷ [])) (lines batch done) (line_of (state_at batch i))
+lines_next batch done i =
+    record {
+      is =
+          ap text_of (map-append (state_at batch) done (i ∷ []))
+          ∙ text_append (map (state_at batch) done) (state_at batch i ∷ [])
+          ∙ ap (λ (l : List ℕ). lines batch done ++ l) (text_one (state_at batch i));
+    }
+
+-- Lines of records that the chain has are no longer than all of them.
+lines_short : {batch done : List ℕ} {rest : Chain} → Walk batch done rest → length (lines batch done) ≤ length (batch_text batch)
+lines_short {batch} {done} {rest} w =
+    omega (
+      arith,
+      ap (λ (l : List ℕ). length (lines batch l)) w.indices
+          ∙ ap (λ (l : List (List ℕ)). length (text_of l)) (map-append (state_at batch) done rest.indices)
+          ∙ ap (λ (l : List ℕ). length l) (text_append (map (state_at batch) done) (map (state_at batch) rest.indices))
+          ∙ length-append (lines batch done) (lines batch rest.indices),
+    )
+
+-- Only a batch has a record, which is no longer than the batch.
+record_short : {batch done : List ℕ} {rest next : Chain} {i : ℕ} (state : List ℕ) → Walk batch done rest → rest ≡ onto i next → state ≡ state_at batch i → length state ≤ 65536
+record_short {batch} {done} {rest} {next} {i} state w e s = go (is_batch batch) refl
+  where
+    go : (t : Bool) → is_batch batch ≡ t → length state ≤ 65536
+    go true f = omega (arith, (batch_size batch f).1, state_short batch state i s)
+    go false f =
+        let none : length (chain_of batch).indices ≡ 0 = ap (λ (c : Chain). length c.indices) (chain_is batch f) in
+        let z : ⊥ = omega (arith, none, ap (λ (l : List ℕ). length l) (w.indices ∙ ap (λ (c : Chain). done ++ c.indices) e), length-append done (i ∷ next.indices)) in
+        absurd z
+
+-- The records so far were counted, and their lines measured.
+pub record Measuring (batch : List ℕ) (rest : Chain) (records n : ℕ) : Type 0 where
+  pub done : List ℕ
+  pub walk : Walk batch done rest
+  pub counted : records ≡ length done
+  pub size : n ≡ length (lines batch done)
+  pub few : n ≤ 131073 * records
+
+pub measuring_start : {batch : List ℕ} {rest : Chain} → chain_of batch ≡ rest → Measuring batch rest 0 0
+measuring_start e = record { done = []; walk = walk_start e; counted = refl; size = sym (ap (λ (l : List ℕ). length l) text_none); few = omega arith }
+
+module _ {batch : List ℕ} {rest : Chain} {records n : ℕ} (g : Measuring batch rest records n) where
+  -- While a record is left, few are done, and the text with its line is short.
+  pub measuring_few : {i : ℕ} {next : Chain} → rest ≡ onto i next → records < 65536
+  measuring_few e = omega (arith, walk_few g.walk e, g.counted)
+
+  pub measuring_short : {i : ℕ} {next : Chain} (state : List ℕ) → rest ≡ onto i next → state ≡ state_at batch i → n + (2 * length state + 1) < 2 ^ 64
+  measuring_short state e s = omega (arith, g.few, measuring_few e, record_short state g.walk e s)
+
+  pub measuring_turn : {i : ℕ} {next : Chain} (state : List ℕ) → rest ≡ onto i next → state ≡ state_at batch i
+      → Measuring batch next (records + 1) (n + (2 * length state + 1))
+  measuring_turn {i} state e s =
+      let line : length (line_of (state_at batch i)) ≡ 2 * length state + 1 = sym (ap (λ (l : List ℕ). length (line_of l)) s) ∙ line_length state in
       record {
-        is =
-            ap (λ (l : List ℕ). text_of (map (state_at batch) l)) (ap (λ (j : ℕ). take j indices) (add-one k) ∙ take-suc indices k 0 h)
-            ∙ ap text_of (map-append (state_at batch) (take k indices) (get_or indices k 0 ∷ []))
-            ∙ text_append (map (state_at batch) (take k indices)) (state_at batch (get_or indices k 0) ∷ [])
-            ∙ ap (λ (l : List ℕ). lines_to k ++ l) (text_one (state_at batch (get_or indices k 0)));
+        done = g.done ++ i ∷ [];
+        walk = walk_turn g.walk e;
+        counted = omega (arith, g.counted, length-append g.done (i ∷ []));
+        size = omega (arith, g.size, two_length (lines_next batch g.done i), line);
+        few = omega (arith, g.few, record_short state g.walk e s);
       }
 
-  pub lines_all : (k : ℕ) → length indices ≤ k → lines_to k ≡ text_of (map (state_at batch) indices)
-  lines_all k h = ap (λ (l : List ℕ). text_of (map (state_at batch) l)) (take_all k indices h)
+  pub measured_records : {r : Result ⊤ ChainError} → rest ≡ ends r → records ≡ length (chain_of batch).indices
+  measured_records e = g.counted ∙ sym (ap (λ (l : List ℕ). length l) (walk_all g.walk e))
 
-  -- The first lines are no longer than all of them.
-  pub lines_short : (k : ℕ) → length (lines_to k) ≤ length (text_of (map (state_at batch) indices))
-  lines_short k =
-      let f = map (state_at batch) in
-      let all : text_of (f indices) ≡ lines_to k ++ text_of (f (drop k indices)) =
-      ap (λ (l : List ℕ). text_of (f l)) (sym (take-append-drop k indices))
-      ∙ ap text_of (map-append (state_at batch) (take k indices) (drop k indices))
-      ∙ text_append (f (take k indices)) (f (drop k indices)) in
-      omega (arith, ap (λ (l : List ℕ). length l) all, length-append (lines_to k) (text_of (f (drop k indices))))
+  pub measured_ending : {r : Result ⊤ ChainError} → rest ≡ ends r → (chain_of batch).ending ≡ r
+  measured_ending e = walk_ending g.walk e
+
+  pub measured_size : {r : Result ⊤ ChainError} → rest ≡ ends r → n ≡ length (batch_text batch)
+  measured_size e = g.size ∙ sym (ap (λ (l : List ℕ). length (lines batch l)) (walk_all g.walk e))
+
+-- The lines of the records so far stand at the front.
+pub record Lining (batch : List ℕ) (rest : Chain) (out : List ℕ) (at : ℕ) (now : List ℕ) : Type 0 where
+  pub done : List ℕ
+  pub walk : Walk batch done rest
+  pub put : PutPost out 0 (lines batch done) at now
+
+pub lining_start : {batch : List ℕ} {rest : Chain} (out : List ℕ) → chain_of batch ≡ rest → Lining batch rest out 0 out
+lining_start out e = record { done = []; walk = walk_start e; put = put_none out 0 text_none }
+
+module _ {batch : List ℕ} {rest : Chain} {out : List ℕ} {at : ℕ} {now : List ℕ} (g : Lining batch rest out at now) where
+  -- There is room for the next line where there is for all of them.
+  pub lining_room : {i : ℕ} {next : Chain} (state : List ℕ) → rest ≡ onto i next → state ≡ state_at batch i → length (batch_text batch) ≤ length out
+      → at + length (line_of state) ≤ length now
+  lining_room {i} state e s room =
+      omega (
+        arith,
+        ap (λ (l : List ℕ). length (line_of l)) s,
+        g.put.next,
+        two_length (lines_next batch g.done i),
+        lines_short (walk_turn g.walk e),
+        ap (λ (l : List ℕ). length l) g.put.output ∙ length-sets out 0 (lines batch g.done),
+      )
+
+  pub lining_turn : {i next_at : ℕ} {next : Chain} {after : List ℕ} (state : List ℕ) → rest ≡ onto i next → state ≡ state_at batch i → PutPost now at (line_of state) next_at after
+      → Lining batch next out next_at after
+  lining_turn {i} state e s p =
+      record { done = g.done ++ i ∷ []; walk = walk_turn g.walk e; put = put_both (lines_next batch g.done i) g.put (put_same (ap line_of s) p) }
+
+  pub lining_end : {r : Result ⊤ ChainError} → rest ≡ ends r → PutPost out 0 (batch_text batch) at now
+  lining_end e = put_same (sym (ap (lines batch) (walk_all g.walk e))) g.put
+
+  -- A chain that is not broken has no error.
+  pub lining_whole : {e : ChainError} → (chain_of batch).ending ≡ Ok tt → rest ≡ ends (Err e) → ⊥
+  lining_whole whole e = no_error whole (walk_ending g.walk e)
 
 -- ---- what unpacking answers
 
--- Only a batch has a chain that comes to its end.
-pub whole_short : (batch : List ℕ) → (chain_of batch).ending ≡ Ok tt → length batch ≤ 65536
-whole_short batch e = go (is_batch batch) refl
-  where
-    go : (t : Bool) → is_batch batch ≡ t → length batch ≤ 65536
-    go true f = (batch_size batch f).1
-    go false f = absurd (true≢false (sym (ap is_ok (sym (ap (λ (c : Chain). c.ending) (chain_is batch f)) ∙ e))))
-
-module _ (batch cells out : List ℕ) (w : Walked) (indices : List ℕ) (walked : WalkedPost batch cells w indices) where
-  walked_so : WalkedPost batch cells (record { records = length (chain_of batch).indices; ending = (chain_of batch).ending }) indices
-  walked_so =
-      record {
-        records = refl;
-        ending = refl;
-        front = subst (λ (k : ℕ). take k indices ≡ (chain_of batch).indices) walked.records walked.front;
-        inside = subst (λ (k : ℕ). k ≤ length indices) walked.records walked.inside;
-        untouched = subst (λ (k : ℕ). drop k indices ≡ drop k cells) walked.records walked.untouched;
-      }
-
-  -- The text of the records that were walked is the batch's.
-  pub walked_text : text_of (map (state_at batch) (take w.records indices)) ≡ batch_text batch
-  walked_text = ap (λ (l : List ℕ). text_of (map (state_at batch) l)) walked.front
-
+module _ (batch out : List ℕ) where
   -- What is answered of a batch whose chain is not broken.
   abbrev unbroken : Result ℕ UnpackError
   unbroken = cond (leb (length (batch_text batch)) (length out)) (Ok (length (batch_text batch))) (Err TooLong)
 
-  ends_so : (x : Result ⊤ ChainError) → w.ending ≡ x → unpacked_of (length out) batch ≡ unless_broken x (length (chain_of batch).indices) unbroken
+  ends_so : (x : Result ⊤ ChainError) → (chain_of batch).ending ≡ x → unpacked_of (length out) batch ≡ unless_broken x (length (chain_of batch).indices) unbroken
   unfolding unpacked_of
-  ends_so x e = ap (λ (r : Result ⊤ ChainError). unless_broken r (length (chain_of batch).indices) unbroken) (sym walked.ending ∙ e)
+  ends_so x e = ap (λ (r : Result ⊤ ChainError). unless_broken r (length (chain_of batch).indices) unbroken) e
 
-  pub unpack_broken : (error : ChainError) → w.ending ≡ Err error → UnpackedPost batch cells out (Err (Broken w.records error)) indices out
-  unpack_broken error e =
-      record { answer = ap (λ (k : ℕ). Err (Broken k error)) walked.records ∙ sym (ends_so (Err error) e); output = refl; walked = walked_so }
+  pub unpack_broken : {records : ℕ} (error : ChainError) → records ≡ length (chain_of batch).indices → (chain_of batch).ending ≡ Err error
+      → UnpackedPost batch out (Err (Broken records error)) out
+  unpack_broken error counted e = record { answer = ap (λ (k : ℕ). Err (Broken k error)) counted ∙ sym (ends_so (Err error) e); output = refl }
 
-  module _ (e : w.ending ≡ Ok tt) where
+  module _ (e : (chain_of batch).ending ≡ Ok tt) where
     ended : (t : Bool) → leb (length (batch_text batch)) (length out) ≡ t → unpacked_of (length out) batch ≡ cond t (Ok (length (batch_text batch))) (Err TooLong)
     ended t f = ends_so (Ok tt) e ∙ ap (λ (b : Bool). cond b (Ok (length (batch_text batch))) (Err TooLong)) f
 
-    pub unpack_long : length out < length (text_of (map (state_at batch) (take w.records indices))) → UnpackedPost batch cells out (Err TooLong) indices out
-    unpack_long h =
-        record {
-          answer = sym (ended false (lt-leb (length (batch_text batch)) (length out) (omega (arith, ap (λ (l : List ℕ). length l) walked_text))));
-          output = refl;
-          walked = walked_so;
-        }
+    pub unpack_long : length out < length (batch_text batch) → UnpackedPost batch out (Err TooLong) out
+    unpack_long h = record { answer = sym (ended false (lt-leb (length (batch_text batch)) (length out) h)); output = refl }
 
-    pub unpack_text : (now : List ℕ) (r : ℕ) → length (text_of (map (state_at batch) (take w.records indices))) ≤ length out
-        → PutPost out 0 (text_of (map (state_at batch) (take w.records indices))) r now → UnpackedPost batch cells out (Ok r) indices now
+    unpack_text : (now : List ℕ) (r : ℕ) → length (batch_text batch) ≤ length out → PutPost out 0 (batch_text batch) r now → UnpackedPost batch out (Ok r) now
     unpack_text now r h p =
-        let size : r ≡ length (batch_text batch) = omega (arith, p.next, ap (λ (l : List ℕ). length l) walked_text) in
-        record {
-          answer = ap Ok size ∙ sym (ended true (le-leb (length (batch_text batch)) (length out) (omega (arith, ap (λ (l : List ℕ). length l) walked_text))));
-          output = p.output ∙ ap (sets out 0) walked_text;
-          walked = walked_so;
-        }
+        let size : r ≡ length (batch_text batch) = omega (arith, p.next) in
+        record { answer = ap Ok size ∙ sym (ended true (le-leb (length (batch_text batch)) (length out) h)); output = p.output }
+
+    -- The text was put, and an error, of which there is none, is mapped.
+    pub unpack_put : (now : List ℕ) (r : Result ℕ ChainError) (x : Result ℕ UnpackError) (Q : ChainError → Type 0) → length (batch_text batch) ≤ length out
+        → IsOkAnd r (λ n. PutPost out 0 (batch_text batch) n now) → MatchResult r (λ n. x ≡ Ok n) Q → UnpackedPost batch out x now
+    unpack_put now (Ok n) x Q h p e = subst (λ (y : Result ℕ UnpackError). UnpackedPost batch out y now) (sym e) (unpack_text now n h p)
+    unpack_put now (Err error) x Q h p e = absurd p

@@ -1,5 +1,5 @@
 -- Base64, as RFC 4648 has it in section 4.
-use Rattle.std.specs.Prelude.{List, [], ◌∷◌, cond, ℕ, ◌+◌, ◌*◌, ◌/◌, ◌%◌, ◌≤◌, ◌<◌, ltb, eqb, Option, Some, None, length, take}
+use Rattle.std.specs.Prelude.{List, [], ◌∷◌, cond, ℕ, ◌+◌, ◌*◌, ◌/◌, ◌%◌, ◌≤◌, ◌<◌, ltb, eqb, Option, Some, None, take}
 use Rattle.console.specs.Input.{up_to, onto}
 
 -- "Table 1: The Base 64 Alphabet", in the order of the values: A to Z, a to z, 0 to 9, + and /.
@@ -52,11 +52,6 @@ base64_of (a ∷ b ∷ []) = None
 base64_of (a ∷ b ∷ c ∷ []) = None
 base64_of (a ∷ b ∷ c ∷ d ∷ []) = last_group a b c d
 base64_of (a ∷ b ∷ c ∷ d ∷ e ∷ l) = group_then (bits_of (sextet_of a) (sextet_of b) (sextet_of c) (sextet_of d)) (base64_of (e ∷ l))
-
--- Four characters of the word, and room for three bytes.
-pub record GroupPre (word out : List ℕ) (at n : ℕ) : Type 0 where
-  pub inside : at + 4 ≤ length word
-  pub room : n + 3 ≤ length out
 
 -- What the end of a group takes: its bits, how many of its three bytes count, and what divides the bits.
 pub record EndPre (v k unit n room : ℕ) : Type 0 where

@@ -5,7 +5,7 @@ use Rattle.console.specs.declared.input.Arrived.{Arrived}
 use Rattle.console.specs.declared.input.StreamError.TheVariants.{Failed, Full}
 use Rattle.console.specs.declared.output.Said.{Said}
 use Rattle.console.specs.Input.{Stream, ArrivedIn}
-use Rattle.console.specs.Output.{ascii, Saying, out, err, size_of, saying_of, SaidPost}
+use Rattle.console.specs.Output.{ascii, Saying, out, err, size_of, saying_of}
 use Rattle.batch.specs.declared.chain.ChainError.{ChainError}
 use Rattle.batch.specs.declared.chain.ChainError.TheVariants.{NoBatch}
 use Rattle.batch.specs.Chain.{error_number, ordinal_of}
@@ -82,13 +82,7 @@ unpack_says (Err Failed) buf = err (ascii "unpack: standard input cannot be read
 unpack_says (Err Full) buf = err (chain_message 0 NoBatch)
 
 -- The memory that `unpack` lends: so that a stream that fills `buf` is longer than 65,536 bytes, and a text that does not fit is longer than 1,048,576.
-pub record UnpackMemory (arrived : Arrived) (buf indices text : List ℕ) : Type 0 where
+pub record UnpackMemory (arrived : Arrived) (buf text : List ℕ) : Type 0 where
   pub read_in : ArrivedIn buf arrived
   pub buf_size : length buf ≡ 65537
-  pub cells : 65536 ≤ length indices
   pub text_size : length text ≡ 1048576
-
--- This is said, and the rest of the slice is as it was. What is free is named in `free`: the cells hold anything, and are as many as there were.
-pub record UnpackReply (w : Saying) (cells before : List ℕ) (r : Said) (indices after : List ℕ) : Type 0 where
-  pub said : SaidPost w before r after
-  pub free : length indices ≡ length cells

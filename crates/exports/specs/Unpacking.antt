@@ -3,7 +3,6 @@ use Rattle.std.specs.Prelude.{◌≡◌, ⊤, List, [], cond, ℕ, leb, Result, 
 use Rattle.std.proofs.lemmas.List.Edits.{sets}
 use Rattle.batch.specs.declared.chain.ChainError.{ChainError}
 use Rattle.batch.specs.Chain.{chain_of, states_of}
-use Rattle.batch.specs.Unpacking.{WalkedPost}
 use Rattle.exports.specs.declared.unpacking.UnpackError.{UnpackError}
 use Rattle.exports.specs.declared.unpacking.UnpackError.TheVariants.{Broken, TooLong}
 use Rattle.exports.specs.Text.{text_of}
@@ -28,8 +27,7 @@ abbrev pub put_of : Result ℕ UnpackError → List ℕ → List ℕ
 put_of (Ok n) text = text
 put_of (Err e) text = []
 
--- What is put stands at the front of what was `out`, and the rest is untouched. The cells are as walking the batch leaves them.
-pub record UnpackedPost (batch cells out : List ℕ) (r : Result ℕ UnpackError) (indices now : List ℕ) : Type 0 where
+-- What is put stands at the front of what was `out`, and the rest is untouched.
+pub record UnpackedPost (batch out : List ℕ) (r : Result ℕ UnpackError) (now : List ℕ) : Type 0 where
   pub answer : r ≡ unpacked_of (length out) batch
   pub output : now ≡ sets out 0 (put_of r (batch_text batch))
-  pub walked : WalkedPost batch cells (record { records = length (chain_of batch).indices; ending = (chain_of batch).ending }) indices

@@ -1,10 +1,10 @@
 // Base64, as RFC 4648 has it in section 4: strict, with padding, and the bits that padding leaves over are zero. By hand, and not by the kit's crate `base64`:
 // that states its answer for any engine, and what a state is here the definition says in the words of the RFC.
-ghost use Rattle.std.specs.Prelude.{◌≡◌, ◌+◌, ◌≤◌, ◌<◌, length, take, drop, Some, IfSome};
+ghost use Rattle.std.specs.Prelude.{◌≡◌, ◌+◌, ◌≤◌, ◌<◌, length, take, Some, IfSome};
 ghost use Rattle.std.proofs.lemmas.List.Edits.{sets};
 ghost use Rattle.console.specs.Input.{onto};
 ghost use Rattle.exports.specs.Words.{Decodes, DecodedPost};
-ghost use Rattle.exports.specs.Base64.{sextet_of, bits_of, three_of, end_of, base64_of, GroupPre, EndPre};
+ghost use Rattle.exports.specs.Base64.{sextet_of, bits_of, three_of, end_of, base64_of, EndPre};
 
 // The value of a character is its place in the alphabet.
 fn sextet(b: u8) -> Option<usize>
@@ -47,11 +47,11 @@ fn put_end(out: &mut [u8], n: usize, v: usize, k: usize, unit: usize) -> Option<
 }
 
 // The group at the end of the word, which alone may be padded. What padding leaves out counts as an A, whose value is 0.
-fn last_group(word: &[u8], at: usize, out: &mut [u8], n: usize) -> Option<usize>
-    requires { (GroupPre word.now out.old at n) × (length word.now ≡ at + 4) }
-    ensures { Decodes (onto (take n out.old) (base64_of (drop at word.now))) result out.new }
+fn last_group(group: &[u8], out: &mut [u8], n: usize) -> Option<usize>
+    requires { (length group.now ≡ 4) × (n + 3 ≤ length out.old) }
+    ensures { Decodes (onto (take n out.old) (base64_of group.now)) result out.new }
 {
-    let (a, b, third, fourth) = (word[at], word[at + 1], word[at + 2], word[at + 3]);
+    let (a, b, third, fourth) = (group[0], group[1], group[2], group[3]);
     if fourth != b'=' {
         return put_end(out, n, bits(a, b, third, fourth)?, 3, 1);
     }
@@ -72,11 +72,10 @@ pub fn decode_base64(word: &[u8], out: &mut [u8]) -> Option<usize>
     if word.len() % 4 != 0 {
         return None;
     }
-    let last = word.len() / 4 - 1;
-    for i in 0..last {
-        let at = 4 * i;
-        let v = bits(word[at], word[at + 1], word[at + 2], word[at + 3])?;
+    let (front, last) = word.split_at(word.len() - 4);
+    for (i, group) in front.chunks_exact(4).enumerate() {
+        let v = bits(group[0], group[1], group[2], group[3])?;
         put_three(out, 3 * i, v);
     }
-    last_group(word, 4 * last, out, 3 * last)
+    last_group(last, out, front.len() / 4 * 3)
 }

@@ -56,10 +56,8 @@ pub fn pack(text: &[u8], spare: &mut [u8], out: &mut [u8]) -> Result<usize, Pack
         last: 0,
         end: first,
     };
-    let mut n: usize = 0;
-    for piece in Pieces::new(text, b'\n') {
-        n += 1;
-        p = pack_line(lines::trim(piece), n, spare, out, p)?;
+    for (n, piece) in Pieces::new(text, b'\n').enumerate() {
+        p = pack_line(lines::trim(piece), n + 1, spare, out, p)?;
     }
     Ok(p.end)
 }

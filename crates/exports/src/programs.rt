@@ -21,7 +21,7 @@ fn tell_of_packing(
 )
     requires { ArrivedIn lines.now arrived × Says (pack_says arrived.stream lines.now) said batch.now }
 {
-    output::say(stdout, stderr, "pack", said, batch);
+    output::say(stdout, stderr, b"pack", said, batch);
 }
 
 // Packs states into a batch: a line of standard input for each, in hexadecimal or base64, and the batch on standard output. Where a line is bad, or the
@@ -45,17 +45,16 @@ fn tell_of_unpacking(
 )
     requires { ArrivedIn batch.now arrived × Says (unpack_says arrived.stream batch.now) said text.now }
 {
-    output::say(stdout, stderr, "unpack", said, text);
+    output::say(stdout, stderr, b"unpack", said, text);
 }
 
-// A batch may have 65,536 bytes, and there is a cell for each record that it can have.
+// A batch may have 65,536 bytes.
 fn unpack_into(stdin: &mut impl Read, stdout: &impl Print, stderr: &impl Print, text: &mut [u8])
     requires { length text.old ≡ 1048576 }
 {
     let mut batch: [u8; 65537] = filled(0);
     let arrived = input::read_all(stdin, &mut batch);
-    let mut indices: [u32; 65536] = filled(0);
-    let said = replies::unpack_reply(arrived, &batch, &mut indices, text);
+    let said = replies::unpack_reply(arrived, &batch, text);
     tell_of_unpacking(stdout, stderr, arrived, &batch, said, text);
 }
 

@@ -3,7 +3,7 @@
 ghost use Rattle.std.specs.Prelude.{◌≡◌, ◌++◌, ◌+◌, ◌≤◌, length, decimal};
 ghost use Rattle.wire.specs.Varints.{PutPost};
 ghost use Rattle.console.specs.Output.{SaidPost, err};
-ghost use Rattle.exports.specs.Replies.{line_message, lines_say, pack_says, chain_message, batch_says, unpack_says, PackMemory, PackReply, UnpackMemory, UnpackReply};
+ghost use Rattle.exports.specs.Replies.{line_message, lines_say, pack_says, chain_message, batch_says, unpack_says, PackMemory, PackReply, UnpackMemory};
 
 use crate::packing::PackError;
 use crate::unpacking::UnpackError;
@@ -83,11 +83,11 @@ pub(crate) fn pack_reply(arrived: Arrived, lines: &[u8], spare: &mut [u8], out: 
     }
 }
 
-fn unpack_batch(batch: &[u8], indices: &mut [u32], text: &mut [u8]) -> Said
-    requires { (65536 ≤ length indices.old) × (length text.old ≡ 1048576) }
-    ensures { UnpackReply (batch_says batch.now) indices.old text.old result indices.new text.new }
+fn unpack_batch(batch: &[u8], text: &mut [u8]) -> Said
+    requires { length text.old ≡ 1048576 }
+    ensures { SaidPost (batch_says batch.now) text.old result text.new }
 {
-    match unpacking::unpack(batch, indices, text) {
+    match unpacking::unpack(batch, text) {
         Ok(n) => Said::Out(n),
         Err(UnpackError::Broken { records, error }) => complain_of_chain(text, records, error),
         Err(UnpackError::TooLong) => complain(
@@ -98,18 +98,13 @@ fn unpack_batch(batch: &[u8], indices: &mut [u32], text: &mut [u8]) -> Said
 }
 
 // What `unpack` says of a stream that was read into `buf`. A buffer that is full has more bytes than a batch, which is what is said of it.
-pub(crate) fn unpack_reply(
-    arrived: Arrived,
-    buf: &[u8],
-    indices: &mut [u32],
-    text: &mut [u8],
-) -> Said
-    requires { UnpackMemory arrived buf.now indices.old text.old }
-    ensures { UnpackReply (unpack_says arrived.stream buf.now) indices.old text.old result indices.new text.new }
+pub(crate) fn unpack_reply(arrived: Arrived, buf: &[u8], text: &mut [u8]) -> Said
+    requires { UnpackMemory arrived buf.now text.old }
+    ensures { SaidPost (unpack_says arrived.stream buf.now) text.old result text.new }
 {
     match arrived.stream {
-        Ok(n) => unpack_batch(&buf[..n], indices, text),
+        Ok(n) => unpack_batch(&buf[..n], text),
         Err(StreamError::Failed) => complain(text, b"unpack: standard input cannot be read\n"),
-        Err(StreamError::Full) => unpack_batch(buf, indices, text),
+        Err(StreamError::Full) => unpack_batch(buf, text),
     }
 }

@@ -1,12 +1,11 @@
 // The text of a batch: a line of lowercase hexadecimal for each state, in the order of the chain.
-ghost use Rattle.std.specs.Prelude.{◌≡◌, map, ◌+◌, ◌≤◌, length};
+ghost use Rattle.std.specs.Prelude.{◌≡◌, ◌+◌, ◌≤◌, length, Ok, Err, MatchResult, IsOkAnd};
 ghost use Rattle.wire.specs.Varints.{PutPost};
-ghost use Rattle.batch.specs.Chain.{state_at};
-ghost use Rattle.exports.specs.Text.{line_of, text_of};
-ghost use Rattle.exports.specs.Unpacking.{UnpackedPost};
+ghost use Rattle.batch.specs.Chain.{chain_of};
+ghost use Rattle.exports.specs.Text.{line_of};
+ghost use Rattle.exports.specs.Unpacking.{batch_text, UnpackedPost};
 
-use batch::chain::ChainError;
-use batch::unpacking;
+use batch::chain::{ChainError, Records};
 use console::output;
 
 // The chain is broken after so many records; or the text is longer than the slice.
@@ -26,47 +25,41 @@ fn put_line(text: &mut [u8], at: usize, state: &[u8]) -> usize
     n + 1
 }
 
-// The length of the text, which is known before any of it is put: so a text that does not fit leaves the slice as it was.
-fn text_len(batch: &[u8], indices: &[u32]) -> usize
-    requires { (length batch.now ≤ 65536) × (length indices.now ≤ 65536) }
-    ensures { result ≡ length (text_of (map (state_at batch.now) indices.now)) }
+// The length of the text, which is known before any of it is put: so a text that does not fit leaves the slice as it was. The records are counted, after an error,
+// too.
+fn text_len(batch: &[u8], records: &mut usize) -> Result<usize, ChainError>
+    requires { records.old ≡ 0 }
+    ensures counted { records.new ≡ length (chain_of batch.now).indices }
+    ensures measured { MatchResult result (λ n. ((chain_of batch.now).ending ≡ Ok tt) × (n ≡ length (batch_text batch.now))) (λ e. (chain_of batch.now).ending ≡ Err e) }
 {
     let mut n: usize = 0;
-    for &index in indices {
-        let state = unpacking::state_at(batch, index as usize);
-        n += 2 * state.len() + 1;
+    for record in Records::new(batch)? {
+        n += 2 * record?.state.len() + 1;
+        *records += 1;
     }
-    n
+    Ok(n)
 }
 
-// Puts the lines of the records at these indices at the front, and answers how long they are.
-fn put_lines(text: &mut [u8], batch: &[u8], indices: &[u32]) -> usize
-    requires { length (text_of (map (state_at batch.now) indices.now)) ≤ length text.old }
-    ensures { PutPost text.old 0 (text_of (map (state_at batch.now) indices.now)) result text.new }
+// Puts the lines of a batch, whose chain is not broken, at the front, and answers how long they are.
+fn put_lines(text: &mut [u8], batch: &[u8]) -> Result<usize, ChainError>
+    requires { ((chain_of batch.now).ending ≡ Ok tt) × (length (batch_text batch.now) ≤ length text.old) }
+    ensures { IsOkAnd result (λ n. PutPost text.old 0 (batch_text batch.now) n text.new) }
 {
     let mut at: usize = 0;
-    for &index in indices {
-        let state = unpacking::state_at(batch, index as usize);
-        at = put_line(text, at, state);
+    for record in Records::new(batch)? {
+        at = put_line(text, at, record?.state);
     }
-    at
+    Ok(at)
 }
 
-// Puts the text of a batch at the front of `text`, and answers how long it is. `indices` is for the walk, which comes first: where the chain is broken, nothing
-// is put.
-pub(crate) fn unpack(
-    batch: &[u8],
-    indices: &mut [u32],
-    text: &mut [u8],
-) -> Result<usize, UnpackError>
-    requires { 65536 ≤ length indices.old }
-    ensures { UnpackedPost batch.now indices.old text.old result indices.new text.new }
+// Puts the text of a batch at the front of `text`, and answers how long it is. The chain is walked twice: where it is broken, nothing is put.
+pub(crate) fn unpack(batch: &[u8], text: &mut [u8]) -> Result<usize, UnpackError>
+    ensures { UnpackedPost batch.now text.old result text.new }
 {
-    let w = unpacking::walk(batch, indices);
-    let records = w.records;
-    match w.ending {
+    let mut records = 0;
+    match text_len(batch, &mut records) {
+        Ok(n) if text.len() < n => Err(UnpackError::TooLong),
+        Ok(_) => put_lines(text, batch).map_err(|error| UnpackError::Broken { records, error }),
         Err(error) => Err(UnpackError::Broken { records, error }),
-        Ok(()) if text.len() < text_len(batch, &indices[..records]) => Err(UnpackError::TooLong),
-        Ok(()) => Ok(put_lines(text, batch, &indices[..records])),
     }
 }

@@ -74,6 +74,6 @@ fn case(rt: &impl Print, lines: &[u8]) -> Replayed {
 
 fn main(rt: HostRuntime) {
     let mut buf: [u8; 65536] = filled(0);
-    let n = read_cases(&mut rt.stdin(), &rt.stderr(), "exports_cases", &mut buf);
+    let n = read_cases(&mut rt.stdin(), &rt.stderr(), b"exports_cases", &mut buf);
     replay(&rt, &buf[..n], b'|', case);
 }

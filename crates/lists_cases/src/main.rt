@@ -255,6 +255,6 @@ fn case(rt: &impl Print, line: &[u8]) -> Replayed {
 
 fn main(rt: HostRuntime) {
     let mut buf: [u8; 65536] = filled(0);
-    let n = read_cases(&mut rt.stdin(), &rt.stderr(), "lists_cases", &mut buf);
+    let n = read_cases(&mut rt.stdin(), &rt.stderr(), b"lists_cases", &mut buf);
     replay(&rt, &buf[..n], b'\n', case);
 }

@@ -1,5 +1,5 @@
--- Laws of putting text into a buffer: a number, a record's line, the lines of all records, the ending, the four numbers, the state.
-use mathlib.Core.Path.{◌≡◌, refl, sym, ap, ap₂, ◌∙◌, subst}
+-- Laws of putting text into a buffer: a record's line, the lines of all records, the ending, the four numbers, the state.
+use mathlib.Core.Path.{◌≡◌, refl, sym, ap, ap₂, ◌∙◌}
 use mathlib.Core.List.{List, [], ◌∷◌, ◌++◌, append_assoc}
 use Prim.Native.Nat.{ℕ, suc, ◌+◌, ◌*◌, ◌^◌, ◌≤◌, ◌<◌}
 use native.Mathlib.Numerals.{add-one}
@@ -10,10 +10,9 @@ use borrow.Author.Tests.{eq-eqb, ne_eqb}
 use borrow.Rule.Slice.PartMut.{mid_of, put_mid}
 use Rattle.wire.specs.Varints.{PutPost}
 use Rattle.wire.proofs.EncodingLaws.{sets_more, Two, Four, four, two_length}
-use Rattle.std.specs.Counts.{IsPrefixLen}
 use Rattle.std.specs.Fmt.{digits}
 use Rattle.console.specs.Output.{widened_of, hex_text, HexPost}
-use Rattle.console.proofs.OutputLaws.{part_put}
+use Rattle.console.proofs.OutputLaws.{hex_length, hex_size, hex_line}
 use Rattle.rollup.specs.declared.accumulator.Accumulator.{Accumulator}
 use Rattle.rollup.specs.Accumulator.{fresh}
 use Rattle.batch.specs.declared.records.Ending.{Ending}
@@ -27,22 +26,6 @@ use Rattle.reporting.specs.Text.{answer_line, answer_lines, ending_text, not_zer
 use Rattle.reporting.specs.Report.{too_long_message}
 use Rattle.reporting.proofs.NumberLaws.{number_short}
 use Rattle.rollup.specs.Refusals.{answer_of, length_of}
-
--- ---- a number
-
--- What was put at the front of a lent part, with one byte more behind it.
-pub line_put : (out y s : List ℕ) (at end k m : ℕ) → at + m ≤ length out → length s ≤ m → take k y ≡ s → drop k y ≡ drop k (mid_of at m out) → IsPrefixLen k y
-    → PutPost out at (s ++ end ∷ []) (at + k + 1) (set (put_mid at m out y) (at + k) end)
-line_put out y s at end k m room few text rest counts =
-    let size : k ≡ length s = counts.1 ∙ ap length text in
-    record {
-      next = omega (arith, length-append s (end ∷ []));
-      output =
-          ap₂ (λ (o : List ℕ) (j : ℕ). set o (at + j) end)
-          (part_put out y s at m room few (subst (λ (j : ℕ). take j y ≡ s) size text) (subst (λ (j : ℕ). drop j y ≡ drop j (mid_of at m out)) size rest))
-          size
-          ∙ sets_more out at s (end ∷ []);
-    }
 
 -- ---- a record's line
 
@@ -102,11 +85,6 @@ numbers_are a c = four _ _ _ _ refl
 
 -- ---- the state
 
-pub hex_length : (l : List ℕ) → length (hex_text l) ≡ 2 * length l
-unfolding hex_text
-hex_length [] = refl
-hex_length (b ∷ l) = let e = hex_length l in omega arith
-
 pub state_refused : {answer : ℕ} (state : List ℕ) → (answer ≡ 0 → ⊥) → number_text answer 10 ≡ state_text answer state
 unfolding state_text
 state_refused {answer} state n = sym (rw (ne_eqb answer 0 n))
@@ -115,13 +93,11 @@ pub state_written : {answer : ℕ} (state : List ℕ) → answer ≡ 0 → hex_t
 unfolding state_text
 state_written {answer} state e = sym (rw (eq-eqb answer 0 e))
 
--- The newline stands behind the text, for which there is room.
-pub hex_room : {bytes out y : List ℕ} {k : ℕ} → HexPost bytes out k y → k ≡ 2 * length bytes
-hex_room {bytes} p = p.counts.1 ∙ ap (λ (l : List ℕ). length l) p.text ∙ hex_length bytes
-
+-- The digits were put into the part of the buffer from `at` on, which has m bytes.
 pub hex_put : (out y bytes : List ℕ) (at k m : ℕ) → at + m ≤ length out → 2 * length bytes ≤ m → HexPost bytes (mid_of at m out) k y
     → PutPost out at (hex_text bytes ++ 10 ∷ []) (at + k + 1) (set (put_mid at m out y) (at + k) 10)
-hex_put out y bytes at k m room few p = line_put out y (hex_text bytes) at 10 k m room (omega (arith, hex_length bytes)) p.text p.rest p.counts
+hex_put out y bytes at k m room few p =
+    record { next = omega (arith, hex_size p, hex_length bytes, length-append (hex_text bytes) (10 ∷ [])); output = hex_line out y bytes at k m room few p }
 
 -- ---- all of it
 

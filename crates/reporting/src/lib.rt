@@ -88,7 +88,7 @@ fn hand_over(
 )
     requires { ArrivedIn buf.now arrived × Responds arrived.stream buf.now said text.now }
 {
-    output::say(stdout, stderr, "roll", said, text);
+    output::say(stdout, stderr, b"roll", said, text);
 }
 
 // Makes what there is to say, and hands it over.

@@ -41,8 +41,8 @@ fn put_answers(text: &mut [u8], answers: &[u8]) -> usize
     ensures { PutPost text.old 0 (answer_lines 1 answers.now) result text.new × (result ≤ 10 * length answers.now) }
 {
     let mut at: usize = 0;
-    for i in 0..answers.len() {
-        at = put_answer(text, at, 1 + i, answers[i]);
+    for (i, &answer) in answers.iter().enumerate() {
+        at = put_answer(text, at, 1 + i, answer);
     }
     at
 }

@@ -242,6 +242,6 @@ fn replay(rt: &impl Print, text: &[u8]) -> io::Result<()> {
 // A write that fails leaves the output short, which a comparison shows. A `main` that answers it would rest on one more function of C.
 fn main(rt: HostRuntime) {
     let mut buf: [u8; 163840] = filled(0);
-    let n = read_cases(&mut rt.stdin(), &rt.stderr(), "rollup_cases", &mut buf);
+    let n = read_cases(&mut rt.stdin(), &rt.stderr(), b"rollup_cases", &mut buf);
     let _ = replay(&rt, &buf[..n]);
 }

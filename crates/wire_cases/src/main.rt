@@ -106,6 +106,6 @@ fn case(rt: &impl Print, line: &[u8]) -> Replayed {
 
 fn main(rt: HostRuntime) {
     let mut buf: [u8; 65536] = filled(0);
-    let n = read_cases(&mut rt.stdin(), &rt.stderr(), "wire_cases", &mut buf);
+    let n = read_cases(&mut rt.stdin(), &rt.stderr(), b"wire_cases", &mut buf);
     replay(&rt, &buf[..n], b'\n', case);
 }

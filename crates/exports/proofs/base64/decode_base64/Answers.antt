@@ -1,14 +1,17 @@
 use native.Mathlib.Omega.{arith}
-use mathlib.Core.Path.{◌≡◌, refl, sym, ap, subst, ◌∙◌}
-use mathlib.Core.List.{List}
-use Prim.Native.Nat.{ℕ, ◌*◌, ◌+◌, ◌-◌, ◌/◌}
-use lib.ListN.{length, take, drop}
-use Rattle.std.specs.Prelude.{Option, None}
+use mathlib.Core.Path.{◌≡◌, refl, sym, ap, ap₂, subst, ◌∙◌}
+use mathlib.Core.List.{List, ◌++◌}
+use mathlib.Core.Logic.{◌≢◌}
+use Prim.Native.Nat.{ℕ, ◌*◌, ◌+◌, ◌/◌, ◌%◌}
+use lib.ListN.{length, length-append, take}
+use Rattle.std.specs.Slice.Iter.{chunks_exact_rest}
+use Rattle.std.specs.Prelude.{Option, Some, None}
 use Rattle.console.specs.Input.{onto}
 use Rattle.exports.specs.Words.{Decodes, DecodedPost}
 use Rattle.exports.specs.Base64.{base64_of}
 use Rattle.console.proofs.InputLaws.{onto_nothing}
 use Rattle.exports.proofs.Base64Laws.{base64_empty, base64_odd, next_four, group_more}
+use Rattle.std.proofs.lemmas.List.{nil_from_length}
 use borrow.Author.Rules.{rules}
 use Rattle.exports.proofs.base64.decode_base64.Goals as goal
 
@@ -18,33 +21,81 @@ returns-then-is_empty c = record { answer = base64_empty c.args.word.now c.args.
 pub returns-then-word-ne0 : goal.returns-then-word-ne0
 returns-then-word-ne0 c = record { answer = base64_odd c.args.word.now c.if-word-ne0.true; free = refl }
 
+pub put_three-requires : goal.put_three-requires
+put_three-requires c =
+    let l = c.loop-i in
+    let s = c.in-Some.ensures.steps in
+    (search rules, omega (arith, c.requires, l.invariant.left, l.invariant.same, l.invariant.fours, s.1, ap length s.0.1.0, length-append c.in-Some.group.now (chunks_exact_rest c.next.new.self.iter), s.0.1.1, c.split_at.ensures.front_len))
+
+pub last_group-requires : goal.last_group-requires
+last_group-requires c =
+    let some : length c.args.word.now ≢ 0 = search rules in
+    (omega (arith, some, c.if-word-ne0.false, c.split_at.ensures.back_len), omega (arith, some, c.requires, c.loop-i.invariant.same, c.if-word-ne0.false, c.split_at.ensures.front_len))
+
 pub loop-i-init : goal.loop-i-init
-loop-i-init c = (onto_nothing (base64_of c.args.word.now), refl)
+loop-i-init c =
+    let it = c.into_iter-i-iterator.result in
+    let none : it.count ≡ 0 = search rules in
+    let rest : chunks_exact_rest it.iter ≡ c.split_at.result.0.now = search rules in
+    record {
+      read =
+          onto_nothing (base64_of c.args.word.now)
+          ∙ ap₂ (λ (n : ℕ) (l : List ℕ). onto (take n c.args.out.now) (base64_of l)) (let e : 0 ≡ 3 * it.count = omega (arith, none) in e)
+          (c.split_at.ensures.by_index.0 ∙ ap (λ (l : List ℕ). l ++ c.split_at.result.1.now) (sym rest));
+      same = refl;
+      left = omega (arith, none, ap length rest);
+      fours = search rules;
+    }
 
 pub returns-in_err-v : goal.returns-in_err-v
 returns-in_err-v c =
     let l = c.loop-i in
-    let word = c.args.word.now in
-    let none : base64_of word ≡ None = l.invariant.0 ∙ ap (onto (take (3 * l.i) l.out)) (next_four word (4 * l.i) (omega arith) None c.in_err-v.ensures.value) in
-    subst (λ (r : Option ℕ). DecodedPost (base64_of word) c.args.out.now r l.out) (sym c.from_residual.ensures) (record { answer = none; free = l.invariant.1 })
+    let s = c.in-Some.ensures.steps.0.1 in
+    let some : length c.args.word.now ≢ 0 = search rules in
+    let four : length c.split_at.result.1.now ≡ 4 = omega (arith, some, c.if-word-ne0.false, c.split_at.ensures.back_len) in
+    let none : base64_of c.args.word.now ≡ None =
+    l.invariant.read
+    ∙ ap (onto (take (3 * l.i-iterator.count) l.out))
+    (ap (λ (g : List ℕ). base64_of (g ++ c.split_at.result.1.now)) s.0
+    ∙ next_four c.in-Some.group.now (chunks_exact_rest c.next.new.self.iter) c.split_at.result.1.now None (s.1 ∙ l.invariant.fours) four c.in_err-v.ensures.value) in
+    subst (λ (r : Option ℕ). DecodedPost (base64_of c.args.word.now) c.args.out.now r l.out) (sym c.from_residual.ensures) (record { answer = none; free = l.invariant.same })
 
 pub loop-i-preserved : goal.loop-i-preserved
 loop-i-preserved c =
     let l = c.loop-i in
-    let word = c.args.word.now in
+    let s = c.in-Some.ensures.steps in
+    let last = c.split_at.result.1.now in
+    let rest = chunks_exact_rest c.next.new.self.iter in
+    let some : length c.args.word.now ≢ 0 = search rules in
+    let four : length last ≡ 4 = omega (arith, some, c.if-word-ne0.false, c.split_at.ensures.back_len) in
     let v = c.in_ok-v.v in
-    let after = c.put_three.new.out in (
-      l.invariant.0
-          ∙ ap (onto (take (3 * l.i) l.out)) (next_four word (4 * l.i) (omega arith) _ c.in_ok-v.ensures.value)
-          ∙ group_more l.out after (drop (4 * l.i + 4) word) (3 * l.i) v (omega (arith, l.invariant.1)) c.put_three.ensures
-          ∙ ap (λ (n : ℕ). onto (take n after) (base64_of (drop (4 * l.i + 4) word))) (let e : 3 * l.i + 3 ≡ 3 * (l.i + 1) = omega arith in e)
-          ∙ ap (λ (n : ℕ). onto (take (3 * (l.i + 1)) after) (base64_of (drop n word))) (let e : 4 * l.i + 4 ≡ 4 * (l.i + 1) = omega arith in e),
-      c.put_three.auto.out ∙ l.invariant.1,
-    )
+    let after = c.put_three.new.out in
+    let left : 4 * c.next.new.self.count + length rest ≡ length c.split_at.result.0.now =
+    omega (arith, s.1, s.2, ap length s.0.1.0, length-append c.in-Some.group.now rest, s.0.1.1, l.invariant.fours, l.invariant.left) in
+    record {
+      read =
+          l.invariant.read
+          ∙ ap (λ (n : ℕ). onto (take n l.out) (base64_of (chunks_exact_rest l.i-iterator.iter ++ last))) (let e : 3 * l.i-iterator.count ≡ 3 * c.in-Some.i = omega (arith, s.1) in e)
+          ∙ ap (onto (take (3 * c.in-Some.i) l.out))
+          (ap (λ (g : List ℕ). base64_of (g ++ last)) s.0.1.0
+          ∙ next_four c.in-Some.group.now rest last (Some v) (s.0.1.1 ∙ l.invariant.fours) four c.in_ok-v.ensures.value)
+          ∙ group_more l.out after (rest ++ last) (3 * c.in-Some.i) v (omega (arith, left, s.1, s.2, c.requires, l.invariant.same, c.split_at.ensures.front_len)) c.put_three.ensures
+          ∙ ap (λ (n : ℕ). onto (take n after) (base64_of (rest ++ last))) (let e : 3 * c.in-Some.i + 3 ≡ 3 * c.next.new.self.count = omega (arith, s.1, s.2) in e);
+      same = c.put_three.auto.out ∙ l.invariant.same;
+      left = left;
+      fours = s.0.0 ∙ l.invariant.fours;
+    }
 
 pub returns : goal.returns
 returns c =
     let l = c.loop-i in
-    let word = c.args.word.now in
-    let whole = subst (λ (n : ℕ). base64_of word ≡ onto (take (3 * n) l.out) (base64_of (drop (4 * n) word))) (let e : l.i ≡ length word / 4 - 1 = omega arith in e) l.invariant.0 in
-    record { answer = subst (λ (d : Option (List ℕ)). Decodes d c.last_group.result c.last_group.new.out) (sym whole) c.last_group.ensures; free = c.last_group.auto.out ∙ l.invariant.1 }
+    let last = c.split_at.result.1.now in
+    let front = c.split_at.result.0.now in
+    let few = c.in-None.ensures.steps.0.1.0 in
+    let rest = chunks_exact_rest l.i-iterator.iter in
+    let full : length front % 4 ≡ 0 = omega (arith, c.if-word-ne0.false, c.split_at.ensures.front_len, c.split_at.ensures.back_len) in
+    let whole : base64_of c.args.word.now ≡ onto (take (length front / 4 * 3) l.out) (base64_of last) =
+    l.invariant.read
+    ∙ ap₂ (λ (n : ℕ) (r : List ℕ). onto (take n l.out) (base64_of (r ++ last))) (let e : 3 * l.i-iterator.count ≡ length front / 4 * 3 = omega (arith, few, full, l.invariant.left, l.invariant.fours) in e)
+    (nil_from_length rest (omega (arith, few, full, l.invariant.left, l.invariant.fours))) in
+    record { answer = subst (λ (d : Option (List ℕ)). Decodes d c.last_group.result c.last_group.new.out) (sym whole) c.last_group.ensures; free = c.last_group.auto.out ∙ l.invariant.same }

@@ -4,5 +4,5 @@ use lib.ListN.{length}
 use Rattle.exports.proofs.PackLaws.{Packs}
 use Rattle.exports.proofs.packing.pack.Given as goal
 
-abbrev pub invariant-loop-piece : goal.invariant-loop-piece
-invariant-loop-piece l = Packs l.text l.initial.out l.out l.p l.piece-iterator.rest.now l.n × (length l.spare ≡ length l.initial.spare) × (l.piece-iterator.end ≡ 10)
+abbrev pub invariant-loop-n : goal.invariant-loop-n
+invariant-loop-n l = Packs l.text l.initial.out l.out l.p l.n-iterator.iter.rest.now l.n-iterator.count × (length l.spare ≡ length l.initial.spare) × (l.n-iterator.iter.end ≡ 10)

@@ -2,7 +2,8 @@
 use Prim.Native.Nat.{◌-◌}
 use native.Mathlib.Omega.{arith}
 use lib.ListN.{length}
-use Rattle.exports.proofs.UnpackLaws.{line_length, hex_size, line_put}
+use Rattle.console.proofs.OutputLaws.{hex_size}
+use Rattle.exports.proofs.UnpackLaws.{line_length, line_put}
 use Rattle.exports.proofs.unpacking.put_line.Goals as goal
 
 pub hex-requires : goal.hex-requires

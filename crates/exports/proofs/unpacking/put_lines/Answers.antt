@@ -1,25 +1,23 @@
-use mathlib.Core.Path.{refl, ap, ◌∙◌}
-use mathlib.Core.List.{List}
-use Prim.Native.Nat.{ℕ, ◌+◌}
-use native.Mathlib.Omega.{arith}
-use lib.ListN.{length}
-use Rattle.wire.proofs.EncodingLaws.{two_length, put_both, put_none, put_same}
-use Rattle.exports.specs.Text.{line_of}
-use Rattle.exports.proofs.UnpackLaws.{text_none, lines_next, lines_all, lines_short}
+-- A turn puts a line, by what `next` gave.
+use Rattle.std.proofs.Common.{◌≡◌, Some, subst, ap, ◌∙◌, rules}
+use Rattle.batch.specs.Chain.{state_at, chain_of}
+use Rattle.batch.specs.Records.{left, GivesRecord}
+use Rattle.exports.proofs.UnpackLaws.{lining_start, lining_room, lining_turn}
 use Rattle.exports.proofs.unpacking.put_lines.Goals as goal
 
-pub loop-index-init : goal.loop-index-init
-loop-index-init c = (put_none c.args.text.now 0 text_none, refl)
+pub loop-record-init : goal.loop-record-init
+loop-record-init c =
+    let begins : chain_of c.args.batch.now ≡ left c.into_iter-record-iterator.result = search rules in
+    (lining_start c.args.text.now begins, search rules)
 
 pub put_line-at-requires : goal.put_line-at-requires
-put_line-at-requires c = let o = c.args in
-    let l = c.loop-index in
-    omega (arith, ap (λ (s : List ℕ). length (line_of s)) c.state_at-state.ensures, l.invariant.0.next, two_length (lines_next o.batch.now o.indices.now l.index-index c.loop-index-test.true), lines_short o.batch.now o.indices.now (l.index-index + 1), l.invariant.1, c.requires)
+put_line-at-requires c =
+    let l = c.loop-record in
+    let gives = subst (λ r. GivesRecord l.record-iterator (Some r) c.next.new.self) c.in_ok-record.was c.in-Some.ensures.steps in
+    lining_room l.invariant.0 c.in_ok-record.field-0.state.now gives.0 (gives.1 ∙ ap (λ b. state_at b c.in_ok-record.field-0.index) l.invariant.1) c.requires.1
 
-pub loop-index-preserved : goal.loop-index-preserved
-loop-index-preserved c = let o = c.args in
-    let l = c.loop-index in
-    (put_both (lines_next o.batch.now o.indices.now l.index-index c.loop-index-test.true) l.invariant.0 (put_same (ap line_of c.state_at-state.ensures) c.put_line-at.ensures), c.put_line-at.auto.text ∙ l.invariant.1)
-
-pub returns : goal.returns
-returns c = put_same (lines_all c.args.batch.now c.args.indices.now c.loop-index.index-index (omega arith)) c.loop-index.invariant.0
+pub loop-record-preserved : goal.loop-record-preserved
+loop-record-preserved c =
+    let l = c.loop-record in
+    let gives = subst (λ r. GivesRecord l.record-iterator (Some r) c.next.new.self) c.in_ok-record.was c.in-Some.ensures.steps in
+    (lining_turn l.invariant.0 c.in_ok-record.field-0.state.now gives.0 (gives.1 ∙ ap (λ b. state_at b c.in_ok-record.field-0.index) l.invariant.1) c.put_line-at.ensures, gives.2 ∙ l.invariant.1)

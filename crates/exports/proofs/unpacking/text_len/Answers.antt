@@ -1,34 +1,30 @@
-use mathlib.Core.Path.{sym, ap, ◌∙◌}
-use mathlib.Core.List.{List}
-use Prim.Native.Nat.{ℕ, ◌≤◌}
-use native.Mathlib.Omega.{arith}
-use lib.ListN.{length}
-use Rattle.wire.proofs.EncodingLaws.{two_length}
-use Rattle.batch.proofs.UnpackingLaws.{state_short}
-use Rattle.exports.specs.Text.{line_of}
-use Rattle.exports.proofs.UnpackLaws.{line_length, text_none, lines_next, lines_all}
+-- A turn measures a line, by what `next` gave.
+use Rattle.std.proofs.Common.{◌≡◌, Some, subst, sym, ap, ◌∙◌, rules, arith}
+use Rattle.batch.specs.Chain.{state_at, chain_of}
+use Rattle.batch.specs.Records.{left, GivesRecord}
+use Rattle.exports.proofs.UnpackLaws.{Measuring, measuring_start, measuring_few, measuring_short, measuring_turn}
 use Rattle.exports.proofs.unpacking.text_len.Goals as goal
 
-pub loop-index-init : goal.loop-index-init
-loop-index-init c = (sym (ap (λ (l : List ℕ). length l) text_none), omega arith)
+pub loop-record-init : goal.loop-record-init
+loop-record-init c =
+    let it = c.into_iter-record-iterator.result in
+    let begins : chain_of c.args.batch.now ≡ left it = search rules in
+    (subst (λ k. Measuring c.args.batch.now (left it) k 0) (sym c.requires) (measuring_start begins), search rules)
 
-pub overflow_mul-n : goal.overflow_mul-n
-overflow_mul-n c = omega (arith, state_short c.args.batch.now c.state_at-state.result.now _ c.state_at-state.ensures)
+pub overflow_add-n-in-loop-record : goal.overflow_add-n-in-loop-record
+overflow_add-n-in-loop-record c =
+    let l = c.loop-record in
+    let gives = subst (λ r. GivesRecord l.record-iterator (Some r) c.next.new.self) c.in_ok-n.was c.in-Some.ensures.steps in
+    omega (arith, measuring_short l.invariant.0 c.in_ok-n.field-0.state.now gives.0 (gives.1 ∙ ap (λ b. state_at b c.in_ok-n.field-0.index) l.invariant.1))
 
-pub overflow_add-n : goal.overflow_add-n
-overflow_add-n c = omega (arith, state_short c.args.batch.now c.state_at-state.result.now _ c.state_at-state.ensures)
+pub overflow_add-records : goal.overflow_add-records
+overflow_add-records c =
+    let l = c.loop-record in
+    let gives = subst (λ r. GivesRecord l.record-iterator (Some r) c.next.new.self) c.in_ok-n.was c.in-Some.ensures.steps in
+    omega (arith, measuring_few l.invariant.0 gives.0)
 
-pub overflow_add-n-in-loop-index : goal.overflow_add-n-in-loop-index
-overflow_add-n-in-loop-index c = omega (arith, state_short c.args.batch.now c.state_at-state.result.now _ c.state_at-state.ensures)
-
-pub loop-index-preserved : goal.loop-index-preserved
-loop-index-preserved c = let o = c.args in
-    let l = c.loop-index in
-    let state = c.state_at-state.result.now in
-    let short : length state ≤ length o.batch.now = state_short o.batch.now state _ c.state_at-state.ensures in
-    let more = two_length (lines_next o.batch.now o.indices.now l.index-index c.loop-index-test.true) in
-    let line = sym (ap (λ (s : List ℕ). length (line_of s)) c.state_at-state.ensures) ∙ line_length state in
-    (omega (arith, more, line, l.invariant.0), omega (arith, short, l.invariant.1))
-
-pub returns : goal.returns
-returns c = c.loop-index.invariant.0 ∙ ap (λ (l : List ℕ). length l) (lines_all c.args.batch.now c.args.indices.now c.loop-index.index-index (omega arith))
+pub loop-record-preserved : goal.loop-record-preserved
+loop-record-preserved c =
+    let l = c.loop-record in
+    let gives = subst (λ r. GivesRecord l.record-iterator (Some r) c.next.new.self) c.in_ok-n.was c.in-Some.ensures.steps in
+    (measuring_turn l.invariant.0 c.in_ok-n.field-0.state.now gives.0 (gives.1 ∙ ap (λ b. state_at b c.in_ok-n.field-0.index) l.invariant.1), gives.2 ∙ l.invariant.1)

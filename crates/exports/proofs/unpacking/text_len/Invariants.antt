@@ -1,11 +1,8 @@
--- The length of the lines of the first records, each of which has at most 131,073 bytes.
+-- The records so far were counted, and their lines measured.
+use Rattle.batch.specs.Records.{left}
 use mathlib.Core.Path.{◌≡◌}
-use mathlib.Core.List.{map}
-use Prim.Native.Nat.{◌*◌, ◌≤◌}
-use lib.ListN.{length, take}
-use Rattle.batch.specs.Chain.{state_at}
-use Rattle.exports.specs.Text.{text_of}
+use Rattle.exports.proofs.UnpackLaws.{Measuring}
 use Rattle.exports.proofs.unpacking.text_len.Given as goal
 
-abbrev pub invariant-loop-index : goal.invariant-loop-index
-invariant-loop-index l = (l.n ≡ length (text_of (map (state_at l.batch) (take l.index-index l.indices)))) × (l.n ≤ 131073 * l.index-index)
+abbrev pub invariant-loop-record : goal.invariant-loop-record
+invariant-loop-record l = Measuring l.batch (left l.record-iterator) l.records l.n × (l.record-iterator.batch.now ≡ l.batch)

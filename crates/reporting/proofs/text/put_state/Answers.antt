@@ -11,8 +11,9 @@ use Rattle.wire.proofs.EncodingLaws.{put_same}
 use Rattle.rollup.specs.declared.refusal.Refusal.{Refusal}
 use Rattle.rollup.specs.Refusals.{answer_of, length_of}
 use Rattle.rollup.proofs.RefusalLaws.{number_some}
+use Rattle.console.proofs.OutputLaws.{hex_size}
 use Rattle.reporting.specs.Text.{state_text}
-use Rattle.reporting.proofs.TextLaws.{state_refused, state_written, hex_room, hex_put}
+use Rattle.reporting.proofs.TextLaws.{state_refused, state_written, hex_put}
 use Rattle.reporting.proofs.text.put_state.Goals as goal
 
 pub slice_bounds-hex-end : goal.slice_bounds-hex-end
@@ -30,7 +31,7 @@ pub bounds-text-end : goal.bounds-text-end
 bounds-text-end c =
     let e = ap length_of c.in-Ok.is in
     let h : c.in-Ok.len ≤ length c.args.out.now = omega (arith, e, c.requires.0) in
-    omega (arith, length-take-le c.in-Ok.len c.args.out.now h, hex_room c.hex.ensures, c.requires.1, e)
+    omega (arith, length-take-le c.in-Ok.len c.args.out.now h, hex_size c.hex.ensures, c.requires.1, e)
 
 pub returns-in-Ok-clause-put : goal.returns-in-Ok-clause-put
 returns-in-Ok-clause-put c =
@@ -53,4 +54,4 @@ pub returns-in-Ok-clause-room : goal.returns-in-Ok-clause-room
 returns-in-Ok-clause-room c =
     let e = ap length_of c.in-Ok.is in
     let h : c.in-Ok.len ≤ length c.args.out.now = omega (arith, e, c.requires.0) in
-    omega (arith, length-take-le c.in-Ok.len c.args.out.now h, hex_room c.hex.ensures, e)
+    omega (arith, length-take-le c.in-Ok.len c.args.out.now h, hex_size c.hex.ensures, e)
