@@ -43,17 +43,8 @@ low_then : {D : Type 0} (k : ℕ) (r : Read ℕ) (next : ℕ → List ℕ → Re
 low_then k (got v l) next = refl
 low_then k (refused n) next = refl
 
-module _ {s : List ℕ} {at v : ℕ} {c : Cursor} (p : VarintPost s at (Ok (v, c))) where
-  pub varint32_read : Varint32Post s at (Ok (v % 2 ^ 32, c))
-  varint32_read = record { answer = ap (low_bits 32) p.answer; inside = p.inside }
-
-  pub varint32_small : v < 2 ^ 32 → Varint32Post s at (Ok (v, c))
-  varint32_small h = record { answer = ap (λ x. got x (drop c.at s)) (sym (mod-eq_of_lt h)) ∙ ap (low_bits 32) p.answer; inside = p.inside }
-
-pub varint32_failed : {s : List ℕ} {at : ℕ} {e : ReadError} → VarintPost s at (Err e) → (r : Result (ℕ × Cursor) ReadError) → IsErrAnd r (λ y. y ≡ e)
-    → Varint32Post s at r
-varint32_failed p (Ok x) h = absurd h
-varint32_failed p (Err y) h = record { answer = same_error h (ap (low_bits 32) p.answer); inside = tt }
+pub varint32_small : {s : List ℕ} {at v : ℕ} {c : Cursor} → VarintPost s at (Ok (v, c)) → v < 2 ^ 32 → Varint32Post s at (Ok (v, c))
+varint32_small {s} {c = c} p h = record { answer = ap (λ x. got x (drop c.at s)) (sym (mod-eq_of_lt h)) ∙ ap (low_bits 32) p.answer; inside = p.inside }
 
 -- A number of 32 bits, and what is made of it.
 pub varint32_then : {D : Type 0} {s : List ℕ} {at v : ℕ} {c : Cursor} → Varint32Post s at (Ok (v, c)) → (next : ℕ → List ℕ → Read D)

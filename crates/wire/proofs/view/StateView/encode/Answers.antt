@@ -22,13 +22,6 @@ returns-then-out-dense c =
     ] in
     encode_short state c.args.out.now short
 
-pub encoded_len-requires : goal.encoded_len-requires
-encoded_len-requires c =
-    let state : State = state_of c.args.self.bytes.now c.args.self.fields in
-    let dense : length c.data-dense.result.now ≡ length (bytes_or_none state.hll.«data») = ap (λ (l : List ℕ). length l) c.data-dense.ensures in
-    let sparse : length c.sparse_data-sparse.result.now ≡ length (bytes_or_none state.hll.sparse_data) = ap (λ (l : List ℕ). length l) c.sparse_data-sparse.ensures in
-    omega (arith, dense, sparse, c.if-out-dense.false, c.if-out-dense-2.false)
-
 pub returns : goal.returns
 returns c =
     let state : State = state_of c.args.self.bytes.now c.args.self.fields in
