@@ -21,6 +21,7 @@ fn register_count(p: u32) -> usize
 }
 
 // How many bytes the registers of a precision take.
+#[tactic(auto, using(crate::proofs::RegisterLaws::bytes_count))]
 pub fn register_bytes(p: u32) -> usize
     requires { p ≤ 24 }
     ensures { (result ≡ register_bytes p) × (result ≤ 16777216) }
@@ -63,6 +64,7 @@ pub fn max_into(target: &mut [u8], source: &[u8], p: u32)
 }
 
 // The registers become the source's.
+#[tactic(auto, using(crate::proofs::RegisterLaws::loaded))]
 pub fn load_registers(target: &mut [u8], source: &[u8], p: u32)
     requires { BothHold p target.old source.now }
     ensures { target.new ≡ with_registers p (registers_of p source.now) target.old }
