@@ -23,7 +23,6 @@ pub struct Sparse {
 impl Sparse {
     ghost use Rattle.lists.specs.Pairs.{NewPost};
 
-    #[tactic(auto, using(crate::proofs::ValueLaws::code_mark))]
     pub fn new(normal_precision: u32, sparse_precision: u32) -> Sparse
         requires { Pair normal_precision sparse_precision }
         ensures { NewPost normal_precision sparse_precision result }
