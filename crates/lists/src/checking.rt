@@ -33,6 +33,7 @@ impl Sparse {
     }
 
     // Whether every value of an ascending list below the mark is valid: the last one is the largest, and valid is below a bound.
+    #[tactic(auto, using(crate::proofs::CheckingLaws::plain_none, crate::proofs::CheckingLaws::plain_last))]
     fn plain_valid(self, l: &[u32]) -> bool
         requires { (ascends l.now ≡ true) × Below (mark self.normal_precision self.sparse_precision) l.now }
         ensures { result ≡ all_valid self.normal_precision self.sparse_precision l.now }

@@ -2,7 +2,7 @@
 // zetasketch-rs at commit 9abe68bf87 (Apache-2.0, see NOTICE). Changed: a lent slice and a precision in the place of `Vec`, a scan register by
 // register for the first that is not zero, and lowering in place.
 //
-// A register is a byte: `read_register`, `store_register` and `raise_register` alone know it, and every loop over registers goes through them. Registers of a
+// A register is a byte: `read_register`, `store_register` and `raise_register` alone know it, and every loop over registers goes through them, by index. Registers of a
 // precision fill whole bytes, so that all of them are copied and cleared as bytes. They stay a slice and a precision: a struct that held a lent slice would
 // owe in each contract that it is still the same slice, and want a second type for registers that are only read.
 ghost use Rattle.std.specs.Prelude.{◌≡◌, ◌+◌, ◌-◌, ◌/◌, ◌^◌, ◌<◌, ◌≤◌};
@@ -21,6 +21,7 @@ fn register_count(p: u32) -> usize
 }
 
 // How many bytes the registers of a precision take.
+#[tactic(auto, using(crate::proofs::RegisterLaws::bytes_count))]
 pub fn register_bytes(p: u32) -> usize
     requires { p ≤ 24 }
     ensures { (result ≡ register_bytes p) × (result ≤ 16777216) }
@@ -63,6 +64,7 @@ pub fn max_into(target: &mut [u8], source: &[u8], p: u32)
 }
 
 // The registers become the source's.
+#[tactic(auto, using(crate::proofs::RegisterLaws::loaded))]
 pub fn load_registers(target: &mut [u8], source: &[u8], p: u32)
     requires { BothHold p target.old source.now }
     ensures { target.new ≡ with_registers p (registers_of p source.now) target.old }
@@ -103,7 +105,8 @@ pub fn largest_register(registers: &[u8], p: u32) -> u8
     top
 }
 
-// The first index from `from` on, and before `to`, whose register is not zero, or `to`.
+// The first index from `from` on, and before `to`, whose register is not zero, or `to`. `find` would be no plainer: its closure reads a register, so that it would
+// need a contract of its own.
 fn first_not_zero(registers: &[u8], from: usize, to: usize) -> usize
     requires { ScanPre from to registers.now }
     ensures { ScanPost registers.now from to result }

@@ -35,6 +35,7 @@ impl Sparse {
     }
 
     // Whether a value has the mark.
+    #[tactic(auto, using(crate::proofs::ValueLaws::code_marked))]
     pub fn is_rho_encoded(self, v: u32) -> bool
         ensures { result ≡ marked self.normal_precision self.sparse_precision v }
     {
@@ -42,6 +43,7 @@ impl Sparse {
     }
 
     // The least low six bits of a marked value: with s = p they are its rank, which is not 0.
+    #[tactic(auto, using(crate::proofs::ValueLaws::truth, crate::proofs::ValueLaws::truth_le), unfolding(crate::specs::Values::least_marked_rank))]
     fn least_marked_rank(self) -> u32
         ensures { (result ≡ least_marked_rank self.normal_precision self.sparse_precision) × (result ≤ 1) }
     {
@@ -49,6 +51,7 @@ impl Sparse {
     }
 
     // The end of the plain values, of which there is none with s = p. A choice between two ends would stay in a loop over many values.
+    #[tactic(auto, using(crate::proofs::ValueLaws::code_plain_end))]
     fn plain_end(self) -> u32
         ensures { result ≡ plain_end self.normal_precision self.sparse_precision }
     {
@@ -56,6 +59,7 @@ impl Sparse {
     }
 
     // The end of the marked values, whose index stands between the low six bits and the mark.
+    #[tactic(auto, using(crate::proofs::ValueLaws::code_end, crate::proofs::ValueLaws::code_end_fits))]
     pub(crate) fn marked_end(self) -> u32
         ensures { result ≡ marked_end self.normal_precision self.sparse_precision }
     {
@@ -63,6 +67,7 @@ impl Sparse {
     }
 
     // Whether the low six bits of a marked value are those of a rank, from the least to 65 - s, by one comparison: one less than the least wraps to 63.
+    #[tactic(auto, using(crate::proofs::ValueLaws::least_taken, crate::proofs::ValueLaws::code_rank))]
     pub(crate) fn marked_rank_fits(self, v: u32) -> bool
         requires { marked self.normal_precision self.sparse_precision v ≡ true }
         ensures { result ≡ marked_rank_fits self.normal_precision self.sparse_precision v }
@@ -83,6 +88,7 @@ impl Sparse {
     }
 
     // The index of a value among 2^s.
+    #[tactic(auto, using(crate::proofs::ValueLaws::sparse_plain, crate::proofs::ValueLaws::code_ge, crate::proofs::ValueLaws::code_sparse))]
     pub fn decode_sparse_index(self, v: u32) -> u32
         requires { valid self.normal_precision self.sparse_precision v ≡ true }
         ensures { result ≡ sparse_index self.normal_precision self.sparse_precision v }
@@ -121,6 +127,7 @@ impl Sparse {
 }
 
 // 1 plus the leading zeros of the low bits.
+#[tactic(auto, using(crate::proofs::ValueLaws::zeros32_low, crate::proofs::ValueLaws::code_bits))]
 pub fn compute_rho_w(value: u32, bits: u32) -> u8
     requires { bits ≤ 25 }
     ensures { result ≡ plain_rank bits value }
@@ -138,6 +145,7 @@ pub fn largest_rank(p: u32) -> u8
 }
 
 // The rank that a register, or a listed value, of rank `rho_w` has d bits lower.
+#[tactic(auto, using(crate::proofs::ValueLaws::zeros32_low, crate::proofs::ValueLaws::code_lowered_zero, crate::proofs::ValueLaws::code_lowered_bits))]
 pub fn downgrade_rho_w(index: u32, rho_w: u8, d: u32) -> u8
     requires { (d ≤ 20) × (rho_w + d < 256) }
     ensures { result ≡ lowered_rank d index rho_w }
