@@ -12,6 +12,3 @@ use Rattle.batch.proofs.packing.put_record.Goals as goal
 
 pub put_last-requires : goal.put_last-requires
 put_last-requires c = omega (arith, record_length 0 c.args.state.now, c.requires.room_for, ap (λ (l : List ℕ). length l) c.put_word.ensures.output, length-sets c.args.out.now c.args.last (word_bytes c.args.end))
-
-pub returns : goal.returns
-returns c = record { put = subst (λ (l : List ℕ). PutPost l c.args.end (record_bytes 0 c.args.state.now) c.put_last.result c.put_last.new.out) c.put_word.ensures.output c.put_last.ensures }

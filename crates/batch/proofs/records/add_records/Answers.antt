@@ -28,11 +28,6 @@ loop-record-init c =
       known = λ (e : c.args.fitted.now.distinct ≡ true). never (sym c.requires.1 ∙ e);
     }
 
-pub returns-then-records-answers-clause-rolled : goal.returns-then-records-answers-clause-rolled
-returns-then-records-answers-clause-rolled c =
-    let gives = subst (λ r. GivesRecord c.loop-record.record-iterator (Some r) c.next.new.self) c.in_ok-record.was c.in-Some.ensures.steps in
-    stop_full c.loop-record.invariant.going gives.0 (omega arith)
-
 pub add-requires : goal.add-requires
 add-requires c = record { fit = run_fits c.loop-record.invariant.going.run; known = c.loop-record.invariant.known }
 
