@@ -1,15 +1,14 @@
 -- Both lists are set in the lent bytes, and the registers there are counted (`list_counted`).
 use Prim.Native.Nat.{ℕ, ◌≤◌}
-use mathlib.Core.Path.{◌≡◌, sym}
+use mathlib.Core.Path.{◌≡◌}
 use mathlib.Core.Bool.{true}
 use mathlib.Core.List.{◌++◌}
 use lib.ListN.{length, take}
-use lib.Seq.{length-take-le}
 use Rattle.lists.specs.Lists.{all_valid}
 use Rattle.lists.specs.Registers.{register_bytes, not_zero_count}
 use Rattle.lists.proofs.MergeLaws.{valid_append}
 use Rattle.rollup.specs.Calls.{list_registers}
-use Rattle.rollup.proofs.SparseLaws.{at_pair, of_pair, set_room}
+use Rattle.rollup.proofs.SparseLaws.{at_pair, of_pair}
 use Rattle.batch.proofs.ClosingLaws.{list_counted}
 use Rattle.batch.proofs.closing.list_not_zero.Goals as goal
 

@@ -1,12 +1,11 @@
 -- The index that leads to the record, and then the record.
-use mathlib.Core.Path.{ap, subst}
+use mathlib.Core.Path.{ap}
 use mathlib.Core.List.{List}
 use Prim.Native.Nat.{ℕ}
 use native.Mathlib.Omega.{arith}
 use lib.ListN.{length}
 use lib.Seq.{length-sets}
-use Rattle.wire.specs.Varints.{PutPost}
-use Rattle.batch.specs.Packing.{word_bytes, record_bytes}
+use Rattle.batch.specs.Packing.{word_bytes}
 use Rattle.batch.proofs.PackingLaws.{record_length}
 use Rattle.batch.proofs.packing.put_record.Goals as goal
 

@@ -7,7 +7,7 @@ use Rattle.rollup.specs.Lent.{mem_of}
 use Rattle.rollup.specs.Adding.{AddPost}
 use Rattle.batch.specs.Chain.{state_at}
 use Rattle.batch.specs.Records.{left, GivesRecord}
-use Rattle.batch.proofs.RollLaws.{going_start, stop_ended, stop_full, going_turn}
+use Rattle.batch.proofs.RollLaws.{going_start, stop_ended, going_turn}
 use Rattle.batch.proofs.records.add_records.Goals as goal
 
 pub returns-in_err-record-items-clause-rolled : goal.returns-in_err-record-items-clause-rolled
