@@ -13,7 +13,7 @@ use crate::memory::Memory;
 use lists::registers;
 use lists::values::Sparse;
 
-// The smaller of two numbers as signed ones.
+// The smaller of two numbers as signed ones. It has a name, since the definition has one; among the fields of the head it would be a chain of four calls.
 fn signed_min(x: u32, y: u32) -> u32
     ensures { result ≡ signed_min x y }
 {

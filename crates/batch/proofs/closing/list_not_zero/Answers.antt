@@ -1,33 +1,16 @@
 -- Both lists are set in the lent bytes, and the registers there are counted (`list_counted`).
 use Prim.Native.Nat.{ℕ, ◌≤◌}
-use mathlib.Core.Path.{◌≡◌, sym}
+use mathlib.Core.Path.{◌≡◌}
 use mathlib.Core.Bool.{true}
 use mathlib.Core.List.{◌++◌}
 use lib.ListN.{length, take}
-use lib.Seq.{length-take-le}
 use Rattle.lists.specs.Lists.{all_valid}
 use Rattle.lists.specs.Registers.{register_bytes, not_zero_count}
 use Rattle.lists.proofs.MergeLaws.{valid_append}
 use Rattle.rollup.specs.Calls.{list_registers}
-use Rattle.rollup.proofs.SparseLaws.{at_pair, of_pair, set_room}
+use Rattle.rollup.proofs.SparseLaws.{at_pair, of_pair}
 use Rattle.batch.proofs.ClosingLaws.{list_counted}
 use Rattle.batch.proofs.closing.list_not_zero.Goals as goal
-
-pub slice_bounds-set_lists-end : goal.slice_bounds-set_lists-end
-slice_bounds-set_lists-end c = sym (length-take-le c.args.a.sparse_len c.args.sparse.now c.requires.kept_in)
-
-pub slice_bounds-set_lists-end-2 : goal.slice_bounds-set_lists-end-2
-slice_bounds-set_lists-end-2 c = sym (length-take-le c.args.a.pending_len c.args.pending.now c.requires.waiting_in)
-
-pub set_lists-requires : goal.set_lists-requires
-set_lists-requires c =
-    let n = c.encoding-enc.ensures in
-    record { kept_valid = of_pair n (λ (p s : ℕ). all_valid p s (take c.args.a.sparse_len c.args.sparse.now) ≡ true) c.requires.kept_valid; waiting_valid = of_pair n (λ (p s : ℕ). all_valid p s (take c.args.a.pending_len c.args.pending.now) ≡ true) c.requires.waiting_valid; room = of_pair n (λ (p s : ℕ). register_bytes p ≤ length c.args.spare.now) c.requires.room }
-
-pub count_not_zero-requires : goal.count_not_zero-requires
-count_not_zero-requires c =
-    let n = c.encoding-enc.ensures in
-    record { high = c.encoding-enc.result.pair.high; room = set_room c.encoding-enc.result.normal_precision c.encoding-enc.result.sparse_precision c.args.spare.now (of_pair n (λ (p s : ℕ). register_bytes p ≤ length c.args.spare.now) c.requires.room) (take c.args.a.sparse_len c.args.sparse.now ++ take c.args.a.pending_len c.args.pending.now) _ c.set_lists.ensures }
 
 pub returns : goal.returns
 returns c =

@@ -7,7 +7,7 @@ use Rattle.rollup.specs.Lent.{mem_of}
 use Rattle.rollup.specs.Adding.{AddPost}
 use Rattle.batch.specs.Chain.{state_at}
 use Rattle.batch.specs.Records.{left, GivesRecord}
-use Rattle.batch.proofs.RollLaws.{going_start, stop_ended, stop_full, going_turn}
+use Rattle.batch.proofs.RollLaws.{going_start, stop_ended, going_turn}
 use Rattle.batch.proofs.records.add_records.Goals as goal
 
 pub returns-in_err-record-items-clause-rolled : goal.returns-in_err-record-items-clause-rolled
@@ -27,11 +27,6 @@ loop-record-init c =
       same = lent_same m;
       known = λ (e : c.args.fitted.now.distinct ≡ true). never (sym c.requires.1 ∙ e);
     }
-
-pub returns-then-records-answers-clause-rolled : goal.returns-then-records-answers-clause-rolled
-returns-then-records-answers-clause-rolled c =
-    let gives = subst (λ r. GivesRecord c.loop-record.record-iterator (Some r) c.next.new.self) c.in_ok-record.was c.in-Some.ensures.steps in
-    stop_full c.loop-record.invariant.going gives.0 (omega arith)
 
 pub add-requires : goal.add-requires
 add-requires c = record { fit = run_fits c.loop-record.invariant.going.run; known = c.loop-record.invariant.known }

@@ -32,9 +32,6 @@ slice_bounds-add-start c = (state_in c.loop-i.invariant.folding c.loop-i-test.tr
 pub slice_bounds-add-end : goal.slice_bounds-add-end
 slice_bounds-add-end c = let s = state_in c.loop-i.invariant.folding c.loop-i-test.true in omega (arith, s.0, s.1)
 
-pub add-requires : goal.add-requires
-add-requires c = record { fit = c.loop-i.invariant.folding.fit; known = c.loop-i.invariant.known }
-
 pub loop-i-preserved : goal.loop-i-preserved
 loop-i-preserved c =
     let l = c.loop-i in
