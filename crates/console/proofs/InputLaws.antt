@@ -20,7 +20,7 @@ use Rattle.std.specs.declared.ops.ControlFlow.{ControlFlow}
 use Rattle.std.specs.declared.ops.ControlFlow.TheVariants.{Continue, Break}
 use Rattle.console.specs.declared.input.StreamError.TheVariants.{Failed, Full}
 use Rattle.console.specs.declared.input.Arrived.{Arrived}
-use Rattle.console.specs.Input.{Stream, so_far, reading_of, ArrivedIn, StreamPost, FrontOnly, up_to, decimal_from, decimal_of, below64, cons_to, byte_then, pairs_of, PairsPost, onto}
+use Rattle.console.specs.Input.{Stream, so_far, reading_of, ArrivedIn, StreamPost, FrontOnly, up_to, decimal_from, below64, cons_to, byte_then, pairs_of, PairsPost, onto}
 
 -- One of two numbers is the smaller.
 pub side : (a b : ℕ) → (a < b) ⊎ (b ≤ a)
@@ -59,14 +59,6 @@ rest_behind s n m e =
     (side (n + 1) (length s))
 
 -- ---- decimal numbers
-
-pub decimal_start : (word : List ℕ) → 0 < length word → decimal_of word ≡ decimal_from 0 word
-decimal_start [] h = let z : ⊥ = omega arith in absurd z
-decimal_start (b ∷ l) h = refl
-
-pub decimal_empty : (word : List ℕ) → length word ≡ 0 → decimal_of word ≡ None
-decimal_empty [] h = refl
-decimal_empty (b ∷ l) h = let z : ⊥ = omega arith in absurd z
 
 module _ (word : List ℕ) (v i : ℕ) where
   pub decimal_end : length word ≤ i → decimal_from v (drop i word) ≡ Some v

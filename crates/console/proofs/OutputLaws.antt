@@ -7,11 +7,9 @@ use native.Mathlib.Omega.{arith}
 use lib.ListN.{length, set, drop, take, get_or, drop_of_length-le, length-drop, length-set, take-append-drop}
 use lib.Seq.{drop-cons, drop-drop, take-suc-set, drop-set-lt, sets, sets-eq, length-sets, take_at, drop_at, drop-append-le, length-take-le}
 use borrow.Rule.Slice.PartMut.{mid_of, post_of, put_mid}
-use Rattle.std.proofs.lemmas.List.{take_all}
 use Rattle.std.specs.Counts.{IsPrefixLen}
-use Rattle.console.specs.declared.output.Said.{Said}
 use Rattle.console.specs.declared.output.Said.TheVariants.{Out, Err}
-use Rattle.console.specs.Output.{out as to_output, err as to_error, size_of, SaidPost, hex_digit_ascii, hex_text, HexPost}
+use Rattle.console.specs.Output.{out as to_output, err as to_error, SaidPost, hex_digit_ascii, hex_text, HexPost}
 
 -- ---- a part of a buffer
 
@@ -32,13 +30,6 @@ part_put out y s at m room few front rest =
         sym (drop-append-le (length s) (mid_of at m out) (post_of at m out) (omega (arith, size)))
         ∙ ap (drop (length s)) (take-append-drop m (drop at out))
         ∙ drop-drop (length s) at out
-
--- The same where the part is filled.
-pub part_whole : (out y s : List ℕ) (at m : ℕ) → at + m ≤ length out → length s ≡ m → y ≡ s → put_mid at m out y ≡ sets out at s
-part_whole out y s at m room full e =
-    part_put out y s at m room (omega arith)
-    (ap (take (length s)) e ∙ take_all (length s) s (omega arith))
-    (ap (drop (length s)) e ∙ drop_of_length-le s (omega arith) ∙ sym (drop_of_length-le (mid_of at m out) (omega (arith, full, length-take-le m (drop at out) (omega (arith, length-drop at out))))))
 
 -- ---- what a program says
 
@@ -62,10 +53,6 @@ module _ (before bytes : List ℕ) {after : List ℕ} {n : ℕ} (room : length b
   pub said_err : SaidPost (to_error bytes) before (Err n) after
   said_err = record { says = ap to_error front; rest = behind; counts = inside }
 
--- The front that is counted of what is said.
-pub said_counts : {r s : Said} (text : List ℕ) → r ≡ s → IsPrefixLen (size_of r) text → IsPrefixLen (size_of s) text
-said_counts text e c = subst (λ (x : Said). IsPrefixLen (size_of x) text) e c
-
 -- ---- hexadecimal
 
 -- The text of the first i bytes stands in `out`, and then comes that of the others.
@@ -73,9 +60,6 @@ pub record Spelling (bytes before out : List ℕ) (i : ℕ) : Type 0 where
   pub size : length out ≡ length before
   pub text : hex_text bytes ≡ take (2 * i) out ++ hex_text (drop i bytes)
   pub rest : drop (2 * i) out ≡ drop (2 * i) before
-
-pub spelling_start : (bytes out : List ℕ) → Spelling bytes out out 0
-spelling_start bytes out = record { size = refl; text = refl; rest = refl }
 
 hex_step : (bytes : List ℕ) (i : ℕ)
     → i < length bytes

@@ -1,18 +1,16 @@
 -- Laws of words, of numbers of 32 bits and of lists of them; and that the front that a count marks lies inside the memory that was lent.
-use Prim.Native.Nat.{ℕ, zero, suc, ◌+◌, ◌-◌, ◌^◌, ◌<◌, ◌≤◌}
+use Prim.Native.Nat.{ℕ, zero, suc, ◌+◌, ◌-◌, ◌<◌, ◌≤◌}
 use native.Mathlib.Omega.{arith}
 use mathlib.Core.Path.{◌≡◌, refl, sym, ap, ap₂, ◌∙◌}
 use mathlib.Core.List.{List, [], ◌∷◌, append-nil}
-use mathlib.Core.Bool.{Bool, true, false, cond, true≢false}
-use lib.Dec.{ltb}
-use lib.ListN.{length, set, take, drop, get_or, length-drop}
+use mathlib.Core.Bool.{true≢false}
+use lib.ListN.{length, set, take, drop, length-drop}
 use lib.Seq.{length-take-le}
 use Rattle.std.proofs.lemmas.List.{length-take}
-use borrow.Author.Tests.{le-ltb, ltb-false, ne_eqb}
 use Rattle.std.specs.Prelude.{Option, Some, None, is_some, IfSome}
 use Rattle.std.specs.Counts.{IsPrefixLen}
-use Rattle.console.specs.Input.{up_to, PieceOf, decimal_of, below64, onto, PairsPost}
-use Rattle.console.specs.Text.{words_from, below32, value_then, values_in, list_in, ListedPost}
+use Rattle.console.specs.Input.{up_to, PieceOf, decimal_of, onto, PairsPost}
+use Rattle.console.specs.Text.{words_from, below32, value_then, values_in}
 use Rattle.console.proofs.InputLaws.{onto_nothing, onto_stored}
 
 -- ---- counts
@@ -23,10 +21,6 @@ front n out h = (h, sym (length-take-le n out h))
 pub pairs_inside : (value : ℕ → Option ℕ) (word out after : List ℕ) (r : Option ℕ) → PairsPost value word out r after → IfSome r (λ n. n ≤ length after)
 pairs_inside value word out after None p = tt
 pairs_inside value word out after (Some n) p = p.2.0
-
-pub listed_inside : (l : Option (List ℕ)) (word before out : List ℕ) (r : Option ℕ) → ListedPost l word before r out → IfSome r (λ n. n ≤ length out)
-listed_inside l word before out None p = tt
-listed_inside l word before out (Some n) p = p.2.0
 
 -- ---- words
 
@@ -43,25 +37,6 @@ words_turn k i line rest next h whole e = whole ∙ go (k - i) (omega arith) ∙
 pub words_done : (l : List ℕ) → words_from 0 l ≡ l
 unfolding words_from
 words_done l = refl
-
--- ---- numbers of 32 bits
-
--- One that 64 bits do not hold, 32 do not hold.
-pub no_number : (o : Option ℕ) → None ≡ below64 o → None ≡ below32 o
-no_number None e = refl
-no_number (Some w) e = go (ltb w (2 ^ 64)) refl e
-  where
-    go : (t : Bool) → ltb w (2 ^ 64) ≡ t → None ≡ cond t (Some w) None → None ≡ below32 (Some w)
-    go true e n = search
-    go false e n = rw (le-ltb w (2 ^ 32) (omega (arith, ltb-false w (2 ^ 64) e)))
-
-pub some_number : (o : Option ℕ) (v : ℕ) → Some v ≡ below64 o → Some v ≡ o
-some_number None v e = search
-some_number (Some w) v e = go (ltb w (2 ^ 64)) e
-  where
-    go : (t : Bool) → Some v ≡ cond t (Some w) None → Some v ≡ Some w
-    go true e = e
-    go false e = search
 
 -- ---- lists
 
@@ -124,7 +99,3 @@ module _ (out whole rest : List ℕ) (room n : ℕ) (so_far : values_in room who
       go : (l : List ℕ) → length l ≡ 0 → values_in (room - n) l ≡ Some []
       go [] h = values_none (room - n)
       go (b ∷ l) h = absurd (let f : ⊥ = omega arith in f)
-
-pub list_values : (word : List ℕ) (room : ℕ) → 0 < length word → (get_or word 0 0 ≡ 46 → ⊥) → values_in room word ≡ list_in room word
-list_values [] room h n = absurd (let z : ⊥ = omega arith in z)
-list_values (b ∷ l) room h n = sym (rw (ne_eqb b 46 n))

@@ -36,7 +36,8 @@ fn glyph(d: u8) -> u8
     if d < 10 { b'0' + d } else { b'a' - 10 + d }
 }
 
-// Puts the bytes as lowercase hexadecimal at the front of `out`, and answers how long that is.
+// Puts the bytes as lowercase hexadecimal at the front of `out`, and answers how long that is. By hand, and not by the kit's crate `hex`: that would be one more
+// library to believe (README, "Believed").
 pub fn hex(bytes: &[u8], out: &mut [u8]) -> usize
     requires { 2 * length bytes.now ≤ length out.old }
     ensures { HexPost bytes.now out.old result out.new }

@@ -1,7 +1,7 @@
 -- Laws of the text of a batch: a line, the lines of the records so far, and what unpacking answers.
 use mathlib.Core.Path.{◌≡◌, refl, sym, ap, ◌∙◌, subst}
 use mathlib.Core.List.{List, [], ◌∷◌, ◌++◌, append_assoc, map, map-append}
-use mathlib.Core.Bool.{Bool, true, false, cond, true≢false}
+use mathlib.Core.Bool.{Bool, true, false, cond}
 use Prim.Native.Nat.{ℕ, ◌+◌, ◌*◌, ◌-◌, ◌^◌, ◌<◌, ◌≤◌}
 use native.Mathlib.Omega.{arith}
 use lib.Dec.{leb}
@@ -12,12 +12,12 @@ use borrow.Rule.Slice.PartMut.{mid_of, put_mid}
 use Rattle.wire.specs.Varints.{PutPost}
 use Rattle.wire.proofs.EncodingLaws.{Two, two_length, put_both, put_none, put_same}
 use Rattle.batch.specs.declared.chain.ChainError.{ChainError}
-use Rattle.batch.specs.Chain.{state_at, is_batch, Chain, ends, onto, chain_of}
-use Rattle.batch.proofs.ChainLaws.{chain_is, batch_size, Walk, walk_start, walk_all, walk_ending, walk_turn, walk_few}
+use Rattle.batch.specs.Chain.{state_at, is_batch, Chain, onto, chain_of}
+use Rattle.batch.proofs.ChainLaws.{chain_is, batch_size, Walk, walk_start, walk_turn, walk_few}
 use Rattle.batch.proofs.UnpackingLaws.{state_short}
 use Rattle.console.specs.Output.{hex_text, HexPost}
 use Rattle.console.proofs.OutputLaws.{hex_length, hex_size, hex_line}
-use Rattle.std.specs.Prelude.{⊤, Result, Ok, Err, is_ok, IsOkAnd, MatchResult}
+use Rattle.std.specs.Prelude.{⊤, Result, Ok, Err, IsOkAnd, MatchResult}
 use Rattle.exports.specs.declared.unpacking.UnpackError.{UnpackError}
 use Rattle.exports.specs.declared.unpacking.UnpackError.TheVariants.{Broken, TooLong}
 use Rattle.exports.specs.Text.{line_of, text_of}
@@ -35,9 +35,6 @@ line_put out y s at k m room e p =
     record { next = omega (arith, hex_size p, line_length s); output = hex_line out y s at k m (omega (arith, line_length s)) (omega (arith, line_length s)) p }
 
 -- ---- the lines of the records so far
-
-no_error : {x : Result ⊤ ChainError} {e : ChainError} → x ≡ Ok tt → x ≡ Err e → ⊥
-no_error whole broken = true≢false (sym (ap is_ok whole) ∙ ap is_ok broken)
 
 text_append : (a b : List (List ℕ)) → text_of (a ++ b) ≡ text_of a ++ text_of b
 unfolding text_of
@@ -118,15 +115,6 @@ module _ {batch : List ℕ} {rest : Chain} {records n : ℕ} (g : Measuring batc
         few = omega (arith, g.few, record_short state g.walk e s);
       }
 
-  pub measured_records : {r : Result ⊤ ChainError} → rest ≡ ends r → records ≡ length (chain_of batch).indices
-  measured_records e = g.counted ∙ sym (ap (λ (l : List ℕ). length l) (walk_all g.walk e))
-
-  pub measured_ending : {r : Result ⊤ ChainError} → rest ≡ ends r → (chain_of batch).ending ≡ r
-  measured_ending e = walk_ending g.walk e
-
-  pub measured_size : {r : Result ⊤ ChainError} → rest ≡ ends r → n ≡ length (batch_text batch)
-  measured_size e = g.size ∙ sym (ap (λ (l : List ℕ). length (lines batch l)) (walk_all g.walk e))
-
 -- The lines of the records so far stand at the front.
 pub record Lining (batch : List ℕ) (rest : Chain) (out : List ℕ) (at : ℕ) (now : List ℕ) : Type 0 where
   pub done : List ℕ
@@ -154,13 +142,6 @@ module _ {batch : List ℕ} {rest : Chain} {out : List ℕ} {at : ℕ} {now : Li
       → Lining batch next out next_at after
   lining_turn {i} state e s p =
       record { done = g.done ++ i ∷ []; walk = walk_turn g.walk e; put = put_both (lines_next batch g.done i) g.put (put_same (ap line_of s) p) }
-
-  pub lining_end : {r : Result ⊤ ChainError} → rest ≡ ends r → PutPost out 0 (batch_text batch) at now
-  lining_end e = put_same (sym (ap (lines batch) (walk_all g.walk e))) g.put
-
-  -- A chain that is not broken has no error.
-  pub lining_whole : {e : ChainError} → (chain_of batch).ending ≡ Ok tt → rest ≡ ends (Err e) → ⊥
-  lining_whole whole e = no_error whole (walk_ending g.walk e)
 
 -- ---- what unpacking answers
 

@@ -1,5 +1,5 @@
 // Base64, as RFC 4648 has it in section 4: strict, with padding, and the bits that padding leaves over are zero. By hand, and not by the kit's crate `base64`:
-// that states its answer for any engine, and what a state is here the definition says in the words of the RFC.
+// that states its answer for any engine, what a state is here the definition says in the words of the RFC, and it would be one more library to believe.
 ghost use Rattle.std.specs.Prelude.{◌≡◌, ◌+◌, ◌≤◌, ◌<◌, length, take, Some, IfSome};
 ghost use Rattle.std.proofs.lemmas.List.Edits.{sets};
 ghost use Rattle.console.specs.Input.{onto};

@@ -42,10 +42,6 @@ module _ (v : ℕ) where
   unfolding number_text
   number_is end = record { is = refl }
 
-  pub number_length : (end : ℕ) → v < 2 ^ 64 → length (number_text v end) ≤ 22
-  unfolding number_text
-  number_length end h = omega (arith, length-append (signed_text v) (end ∷ []), signed_length h)
-
   -- Of a number below 10^j that has no sign.
   pub number_short : (end j : ℕ) → v < 10 ^ suc j → v < 2 ^ 63 → length (number_text v end) ≤ j + 2
   unfolding number_text
