@@ -1,5 +1,5 @@
 // The functions that `capi_c` exports. A caller lends all memory; slices must not overlap. An answer is document 01's number: 0, or the first question that was
-// answered with no. C has no `Result`, no enums with data and no structs of slices: so answers are numbers, the slices stay apart, and the head is a row of numbers.
+// answered with no. An exported function takes numbers and slices and answers a number: so the slices stay apart, and the head is a row of numbers.
 ghost use Rattle.std.specs.Prelude.{◌≡◌, length, set};
 ghost use Rattle.rollup.specs.Accumulator.{mem};
 ghost use Rattle.capi.specs.Calls.{AddRowPost, WriteRowPost, FreshPost};
