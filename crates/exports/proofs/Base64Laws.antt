@@ -47,9 +47,6 @@ three_front out n v k few room =
     ∙ ap (λ (l : List ℕ). take n out ++ l) (take-append-le k (three_of v) rest few)
 
 module _ (out : List ℕ) (n v k unit : ℕ) where
-  pub end_over : v % unit ≢ 0 → onto (take n out) (end_of k unit (Some v)) ≡ None
-  end_over h = ap (λ (t : Bool). onto (take n out) (cond t (Some (take k (three_of v))) None)) (ne_eqb (v % unit) 0 h)
-
   pub end_put : (after : List ℕ) → k ≤ 3 → n + 3 ≤ length out → v % unit ≡ 0 → after ≡ sets out n (three_of v)
       → Decodes (onto (take n out) (end_of k unit (Some v))) (Some (n + k)) after
   end_put after few room h e =

@@ -3,13 +3,13 @@ use mathlib.Core.Path.{◌≡◌, refl, sym, ap, ap₂, ◌∙◌, subst}
 use mathlib.Core.List.{List, [], ◌∷◌, ◌++◌, append_assoc, append-nil}
 use mathlib.Core.Bool.{Bool, true, false, cond}
 use mathlib.Core.Logic.{◌≢◌}
-use Rattle.std.specs.Prelude.{Some, None, Result, Ok, Err}
-use Prim.Native.Nat.{ℕ, suc, ◌+◌, ◌<◌, ◌≤◌}
+use Rattle.std.specs.Prelude.{Some, Result, Ok, Err}
+use Prim.Native.Nat.{ℕ, suc, ◌+◌, ◌≤◌}
 use native.Mathlib.Omega.{arith}
 use lib.Dec.{leb}
 use lib.ListN.{length, take, drop, set, take-append-drop}
 use lib.Seq.{sets, sets-eq, length-sets, take_at, drop-drop, drop-set-lt, length-take-le}
-use borrow.Author.Tests.{le-leb, lt-leb, leb-true}
+use borrow.Author.Tests.{le-leb, leb-true}
 use Rattle.wire.specs.Varints.{PutPost}
 use Rattle.batch.specs.Chain.{chain_of}
 use Rattle.batch.specs.Packing.{word_bytes, record_bytes, packed, RecordPost}
@@ -25,35 +25,21 @@ use Rattle.exports.proofs.LineLaws.{line_at, line_left}
 
 -- ---- one line
 
-held_none : (word : List ℕ) → length word ≡ 0 → held word ≡ nothing
-held_none [] h = refl
-held_none (b ∷ word) h = absurd (let z : ⊥ = omega arith in z)
-
 held_by_lem : (word : List ℕ) → length word ≢ 0 → held word ≡ held_by (state_of word)
 held_by_lem [] n = absurd (n refl)
 held_by_lem (b ∷ word) n = refl
 
-pub turn_empty : (word out : List ℕ) (n : ℕ) (p : Place) → length word ≡ 0 → LinePost (held word) n out p (Ok p) out
-turn_empty word out n p h = subst (λ (x : Held). LinePost x n out p (Ok p) out) (sym (held_none word h)) (refl, refl)
+module _ (word out : List ℕ) (n : ℕ) (p : Place) (some : length word ≢ 0) (s : List ℕ) (e : state_of word ≡ Some s) where
+  turn_state : (r : Result Place PackError) (now : List ℕ) (t : Bool) → leb (p.end + 8 + length s) (length out) ≡ t → FitPost t n out p s r now → LinePost (held word) n out p r now
+  turn_state r now t f post =
+      subst (λ (x : Held). LinePost x n out p r now) (sym (held_by_lem word some ∙ ap held_by e)) (subst (λ (b : Bool). FitPost b n out p s r now) (sym f) post)
 
-module _ (word out : List ℕ) (n : ℕ) (p : Place) (some : length word ≢ 0) where
-  pub turn_other : state_of word ≡ None → LinePost (held word) n out p (Err (BadLine n)) out
-  turn_other e = subst (λ (x : Held). LinePost x n out p (Err (BadLine n)) out) (sym (held_by_lem word some ∙ ap held_by e)) (refl, refl)
-
-  module _ (s : List ℕ) (e : state_of word ≡ Some s) where
-    turn_state : (r : Result Place PackError) (now : List ℕ) (t : Bool) → leb (p.end + 8 + length s) (length out) ≡ t → FitPost t n out p s r now → LinePost (held word) n out p r now
-    turn_state r now t f post =
-        subst (λ (x : Held). LinePost x n out p r now) (sym (held_by_lem word some ∙ ap held_by e)) (subst (λ (b : Bool). FitPost b n out p s r now) (sym f) post)
-
-    pub turn_long : length out < p.end + 8 + length s → LinePost (held word) n out p (Err (TooLong n)) out
-    turn_long h = turn_state (Err (TooLong n)) out false (lt-leb (p.end + 8 + length s) (length out) h) (refl, refl)
-
-    pub turn_next : (now : List ℕ) (r : ℕ) → p.end + 8 + length s ≤ length out → RecordPost out p.last p.end s r now
-        → LinePost (held word) n out p (Ok (record { last = p.end; end = r })) now
-    turn_next now r h post =
-        let f : r ≡ p.end + 8 + length s = omega (arith, post.put.next, record_length 0 s) in
-        turn_state (Ok (record { last = p.end; end = r })) now true (le-leb (p.end + 8 + length s) (length out) h)
-        (ap (λ (k : ℕ). Ok (record { last = p.end; end = k })) f, subst (λ (k : ℕ). RecordPost out p.last p.end s k now) f post)
+  -- Its record fits.
+  pub turn_next : (now : List ℕ) (r : ℕ) → p.end + 8 + length s ≤ length out → RecordPost out p.last p.end s r now → LinePost (held word) n out p (Ok (record { last = p.end; end = r })) now
+  turn_next now r h post =
+      let f : r ≡ p.end + 8 + length s = omega (arith, post.put.next, record_length 0 s) in
+      turn_state (Ok (record { last = p.end; end = r })) now true (le-leb (p.end + 8 + length s) (length out) h)
+      (ap (λ (k : ℕ). Ok (record { last = p.end; end = k })) f, subst (λ (k : ℕ). RecordPost out p.last p.end s k now) f post)
 
 -- ---- all lines
 

@@ -35,6 +35,3 @@ module _ (d : Option (List ℕ)) (old after : List ℕ) (r : Option ℕ) (p : De
 
   pub decoded_some : (n : ℕ) → r ≡ Some n → d ≡ Some (take n after)
   decoded_some n e = (decoded_as e).0
-
-  pub decoded_none : r ≡ None → d ≡ None
-  decoded_none e = decoded_as e

@@ -2,13 +2,13 @@
 use mathlib.Core.Path.{◌≡◌, refl, sym, ap, ◌∙◌, subst}
 use mathlib.Core.List.{List}
 use mathlib.Core.Bool.{false}
-use Rattle.std.specs.Prelude.{Option, Some, None, Ok, Err}
+use Rattle.std.specs.Prelude.{Option, Some, None, Err}
 use Prim.Native.Nat.{ℕ, ◌<◌, ◌≤◌}
 use native.Mathlib.Omega.{arith}
-use lib.ListN.{length, take, get_or}
+use lib.ListN.{length, get_or}
 use lib.Seq.{length-sets}
 use Rattle.std.specs.Counts.{IsPrefixLen}
-use Rattle.console.specs.declared.input.StreamError.TheVariants.{Failed, Full}
+use Rattle.console.specs.declared.input.StreamError.TheVariants.{Full}
 use Rattle.console.specs.Input.{Stream}
 use Rattle.console.specs.declared.output.Said.{Said}
 use Rattle.console.specs.declared.output.Said.TheVariants.{Out, Err as ErrSaid}
@@ -17,12 +17,11 @@ use Rattle.console.specs.Output.{out, SaidPost}
 use Rattle.console.proofs.OutputLaws.{said_out, said_err}
 use Rattle.batch.specs.declared.closing.Report.{Report}
 use Rattle.batch.specs.Chain.{is_batch}
-use Rattle.std.proofs.Common.{rules}
 use Rattle.batch.proofs.ClosingLaws.{few_records, written_inside}
 use Rattle.batch.proofs.CountLaws.{reported_few}
 use Rattle.batch.proofs.NoBatchLaws.{no_batch_report}
 use Rattle.reporting.specs.Text.{report_text}
-use Rattle.reporting.specs.Report.{ReportOf, RolledUp, input_of, unreadable, too_long_message, Hears, HeardPost, HeardIn, saying_for, Response, Responds}
+use Rattle.reporting.specs.Report.{ReportOf, RolledUp, input_of, unreadable, too_long_message, Hears, HeardPost, saying_for, Response, Responds}
 use Rattle.reporting.proofs.TextLaws.{text_24}
 
 -- There are no more records than cells, nor than a batch can have, and what was written lies inside the output.
@@ -39,26 +38,6 @@ rolled_up byte p =
 reports_24 : {batch answers output : List ℕ} {r : Report} → is_batch batch ≡ false → ReportOf batch r answers output
     → report_text r answers output ≡ too_long_message
 reports_24 {answers = answers} {output = output} e p = text_24 answers output (no_batch_report e p.post)
-
--- So are more than it may have.
-long_24 : (batch : List ℕ) → 65536 < length batch → is_batch batch ≡ false
-long_24 batch long = search rules
-
--- ---- what is heard
-
-module _ {stream : Stream} (buf : List ℕ) {answers output : List ℕ} (long : 65536 < length buf) where
-  heard : {h : Option Report} {input : Option (List ℕ)} → input_of stream buf ≡ input → Hears input h answers output → HeardPost stream buf h answers output
-  heard {h} e p =
-      record { hears = subst (λ (x : Option (List ℕ)). Hears x h answers output) (sym e) p; too_long = λ (full : stream ≡ Err Full). long_24 buf long }
-
-  pub heard_all : {n : ℕ} {r : Report} → stream ≡ Ok n → RolledUp (take n buf) r answers output → HeardPost stream buf (Some r) answers output
-  heard_all e p = heard (ap (λ (s : Stream). input_of s buf) e) p
-
-  pub heard_full : {r : Report} → stream ≡ Err Full → RolledUp buf r answers output → HeardPost stream buf (Some r) answers output
-  heard_full e p = heard (ap (λ (s : Stream). input_of s buf) e) p
-
-  pub heard_nothing : stream ≡ Err Failed → HeardPost stream buf None answers output
-  heard_nothing e = heard (ap (λ (s : Stream). input_of s buf) e) tt
 
 -- ---- what is said
 
@@ -78,12 +57,6 @@ module _ {h : Option Report} (answers output before : List ℕ) {after : List �
       (said_err before unreadable room (omega (arith, put.next)) put.output)
 
 module _ (answers output : List ℕ) where
-  heard_inside : (input : Option (List ℕ)) (h : Option Report) → Hears input h answers output → HeardIn h answers output
-  heard_inside (Some batch) (Some r) p = p.inside
-  heard_inside (Some batch) None p = tt
-  heard_inside None (Some r) p = absurd p
-  heard_inside None None p = tt
-
   -- What is said of what was heard is what is to be said of the input ..
   responded : (input : Option (List ℕ)) (h : Option Report) → Hears input h answers output → Response input (saying_for h answers output)
   responded (Some batch) (Some r) p = record { report = r; answers = answers; output = output; promised = p.promised; all = refl }
@@ -95,9 +68,6 @@ module _ (answers output : List ℕ) where
   full_24 : (buf : List ℕ) (h : Option Report) → is_batch buf ≡ false → Hears (Some buf) h answers output → saying_for h answers output ≡ out too_long_message
   full_24 buf (Some r) e p = ap out (reports_24 e p.promised)
   full_24 buf None e p = absurd p
-
-pub heard_in : {stream : Stream} {buf : List ℕ} {h : Option Report} {answers output : List ℕ} → HeardPost stream buf h answers output → HeardIn h answers output
-heard_in {stream} {buf} {h} {answers} {output} p = heard_inside answers output (input_of stream buf) h p.hears
 
 pub responds : {stream : Stream} (buf : List ℕ) {h : Option Report} {answers output before after : List ℕ} {r : Said} → HeardPost stream buf h answers output
     → SaidPost (saying_for h answers output) before r after → Responds stream buf r after

@@ -10,12 +10,6 @@ use Rattle.console.proofs.InputLaws.{drop_next, refused_free}
 use Rattle.console.proofs.TextLaws.{front, values_start, values_full, values_other, values_turn, values_end, value_left}
 use Rattle.console.proofs.text.read_values.Goals as goal
 
-pub loop-piece-init : goal.loop-piece-init
-loop-piece-init c =
-    let s = c.into_iter-piece-iterator in
-    let e : s.result.rest.now ≡ c.args.word.now = ap (λ (i : Pieces). i.rest.now) s.ensures.into_iter_gives ∙ c.new-piece-items.ensures.0 in
-    (omega arith, refl, values_start c.args.word.now s.result.rest.now _ e, λ h. omega (arith, ap length e), refl, ap (λ (i : Pieces). i.end) s.ensures.into_iter_gives ∙ c.new-piece-items.ensures.1)
-
 pub returns-then-out-n : goal.returns-then-out-n
 returns-then-out-n c =
     let l = c.loop-piece in

@@ -1,17 +1,15 @@
 use native.Mathlib.Omega.{arith}
-use mathlib.Core.Path.{◌≡◌, refl, sym, ap, ap₂, subst, ◌∙◌}
+use mathlib.Core.Path.{◌≡◌, refl, sym, ap, subst, ◌∙◌}
 use mathlib.Core.List.{List, ◌++◌}
 use mathlib.Core.Logic.{◌≢◌}
-use Prim.Native.Nat.{ℕ, ◌*◌, ◌+◌, ◌/◌, ◌%◌}
+use Prim.Native.Nat.{ℕ, ◌*◌, ◌+◌}
 use lib.ListN.{length, length-append, take}
 use Rattle.std.specs.Slice.Iter.{chunks_exact_rest}
 use Rattle.std.specs.Prelude.{Option, Some, None}
 use Rattle.console.specs.Input.{onto}
-use Rattle.exports.specs.Words.{Decodes, DecodedPost}
+use Rattle.exports.specs.Words.{DecodedPost}
 use Rattle.exports.specs.Base64.{base64_of}
-use Rattle.console.proofs.InputLaws.{onto_nothing}
 use Rattle.exports.proofs.Base64Laws.{base64_empty, base64_odd, next_four, group_more}
-use Rattle.std.proofs.lemmas.List.{nil_from_length}
 use borrow.Author.Rules.{rules}
 use Rattle.exports.proofs.base64.decode_base64.Goals as goal
 
@@ -20,32 +18,6 @@ returns-then-is_empty c = record { answer = base64_empty c.args.word.now c.args.
 
 pub returns-then-word-ne0 : goal.returns-then-word-ne0
 returns-then-word-ne0 c = record { answer = base64_odd c.args.word.now c.if-word-ne0.true; free = refl }
-
-pub put_three-requires : goal.put_three-requires
-put_three-requires c =
-    let l = c.loop-i in
-    let s = c.in-Some.ensures.steps in
-    (search rules, omega (arith, c.requires, l.invariant.left, l.invariant.same, l.invariant.fours, s.1, ap length s.0.1.0, length-append c.in-Some.group.now (chunks_exact_rest c.next.new.self.iter), s.0.1.1, c.split_at.ensures.front_len))
-
-pub last_group-requires : goal.last_group-requires
-last_group-requires c =
-    let some : length c.args.word.now ≢ 0 = search rules in
-    (omega (arith, some, c.if-word-ne0.false, c.split_at.ensures.back_len), omega (arith, some, c.requires, c.loop-i.invariant.same, c.if-word-ne0.false, c.split_at.ensures.front_len))
-
-pub loop-i-init : goal.loop-i-init
-loop-i-init c =
-    let it = c.into_iter-i-iterator.result in
-    let none : it.count ≡ 0 = search rules in
-    let rest : chunks_exact_rest it.iter ≡ c.split_at.result.0.now = search rules in
-    record {
-      read =
-          onto_nothing (base64_of c.args.word.now)
-          ∙ ap₂ (λ (n : ℕ) (l : List ℕ). onto (take n c.args.out.now) (base64_of l)) (let e : 0 ≡ 3 * it.count = omega (arith, none) in e)
-          (c.split_at.ensures.by_index.0 ∙ ap (λ (l : List ℕ). l ++ c.split_at.result.1.now) (sym rest));
-      same = refl;
-      left = omega (arith, none, ap length rest);
-      fours = search rules;
-    }
 
 pub returns-in_err-v : goal.returns-in_err-v
 returns-in_err-v c =
@@ -85,17 +57,3 @@ loop-i-preserved c =
       left = left;
       fours = s.0.0 ∙ l.invariant.fours;
     }
-
-pub returns : goal.returns
-returns c =
-    let l = c.loop-i in
-    let last = c.split_at.result.1.now in
-    let front = c.split_at.result.0.now in
-    let few = c.in-None.ensures.steps.0.1.0 in
-    let rest = chunks_exact_rest l.i-iterator.iter in
-    let full : length front % 4 ≡ 0 = omega (arith, c.if-word-ne0.false, c.split_at.ensures.front_len, c.split_at.ensures.back_len) in
-    let whole : base64_of c.args.word.now ≡ onto (take (length front / 4 * 3) l.out) (base64_of last) =
-    l.invariant.read
-    ∙ ap₂ (λ (n : ℕ) (r : List ℕ). onto (take n l.out) (base64_of (r ++ last))) (let e : 3 * l.i-iterator.count ≡ length front / 4 * 3 = omega (arith, few, full, l.invariant.left, l.invariant.fours) in e)
-    (nil_from_length rest (omega (arith, few, full, l.invariant.left, l.invariant.fours))) in
-    record { answer = subst (λ (d : Option (List ℕ)). Decodes d c.last_group.result c.last_group.new.out) (sym whole) c.last_group.ensures; free = c.last_group.auto.out ∙ l.invariant.same }

@@ -1,9 +1,6 @@
 -- The bits that are left over are 0, and the bytes stand behind the others.
-use Rattle.exports.proofs.Base64Laws.{end_over, end_put}
+use Rattle.exports.proofs.Base64Laws.{end_put}
 use Rattle.exports.proofs.base64.put_end.Goals as goal
-
-pub returns-then-v-unit-ne0 : goal.returns-then-v-unit-ne0
-returns-then-v-unit-ne0 c = end_over c.args.out.now c.args.n c.args.v c.args.k c.args.unit c.if-v-unit-ne0.true
 
 pub returns : goal.returns
 returns c = end_put c.args.out.now c.args.n c.args.v c.args.k c.args.unit _ c.requires.few c.requires.room_for c.if-v-unit-ne0.false c.put_three.ensures

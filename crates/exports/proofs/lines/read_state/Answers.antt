@@ -1,12 +1,8 @@
 -- Hexadecimal, or else base64.
-use native.Mathlib.Omega.{arith}
 use Rattle.exports.specs.Hexadecimal.{any_digit_of}
 use Rattle.exports.proofs.WordLaws.{pairs_decoded}
 use Rattle.exports.proofs.LineLaws.{spelled_hex, not_hex}
 use Rattle.exports.proofs.lines.read_state.Goals as goal
-
-pub decode_base64-requires : goal.decode_base64-requires
-decode_base64-requires c = omega (arith, (pairs_decoded any_digit_of c.args.word.now c.args.out.now c.decode_hex.new.out c.decode_hex.result c.requires c.decode_hex.ensures).free, c.requires)
 
 pub returns-in-Some : goal.returns-in-Some
 returns-in-Some c = spelled_hex c.args.word.now c.args.out.now c.decode_hex.new.out c.in-Some.n c.decode_hex.result c.in-Some.is (pairs_decoded any_digit_of c.args.word.now c.args.out.now c.decode_hex.new.out c.decode_hex.result c.requires c.decode_hex.ensures)

@@ -1,13 +1,9 @@
 use Prim.Native.Nat.{◌+◌}
-use mathlib.Core.Path.{refl, ◌∙◌}
+use mathlib.Core.Path.{◌∙◌}
 use native.Mathlib.Omega.{arith}
 use lib.ListN.{get_or}
-use Rattle.reporting.specs.Text.{answer_lines}
-use Rattle.reporting.proofs.TextLaws.{going_start, going_put, going_end, lines_more, lines_end, line_length}
+use Rattle.reporting.proofs.TextLaws.{going_put, going_end, lines_more, lines_end, line_length}
 use Rattle.reporting.proofs.text.put_answers.Goals as goal
-
-pub loop-i-init : goal.loop-i-init
-loop-i-init c = (going_start c.args.text.now (answer_lines 1 c.args.answers.now), omega arith, refl)
 
 pub loop-i-preserved : goal.loop-i-preserved
 loop-i-preserved c = let a = c.args.answers.now in

@@ -8,27 +8,6 @@ use Rattle.wire.proofs.EncodingLaws.{put_both}
 use Rattle.reporting.proofs.TextLaws.{report_are}
 use Rattle.reporting.proofs.text.put_report.Goals as goal
 
-pub slice_bounds-put_answers-end-2 : goal.slice_bounds-put_answers-end-2
-slice_bounds-put_answers-end-2 c = sym (length-take-le c.args.r.rolled.records c.args.answers.now c.requires.records_in)
-
-pub put_answers-lines-requires : goal.put_answers-lines-requires
-put_answers-lines-requires c =
-    let size = length-take-le c.args.r.rolled.records c.args.answers.now c.requires.records_in in
-    let few = c.requires.records_few in
-    (omega (arith), omega arith)
-
-pub put_ending-chain-requires : goal.put_ending-chain-requires
-put_ending-chain-requires c =
-    let size = length-take-le c.args.r.rolled.records c.args.answers.now c.requires.records_in in
-    let few = c.requires.records_few in
-    (omega (arith, c.put_answers-lines.ensures.1), omega arith)
-
-pub put_numbers-numbers-requires : goal.put_numbers-numbers-requires
-put_numbers-numbers-requires c = omega (arith, c.put_answers-lines.ensures.1, length-take-le c.args.r.rolled.records c.args.answers.now c.requires.records_in, c.requires.records_few, c.put_ending-chain.ensures.room)
-
-pub put_state-requires : goal.put_state-requires
-put_state-requires c = (c.requires.written_in, omega (arith, c.put_answers-lines.ensures.1, length-take-le c.args.r.rolled.records c.args.answers.now c.requires.records_in, c.requires.records_few, c.put_ending-chain.ensures.room, c.put_numbers-numbers.ensures.room, c.requires.written_few))
-
 pub returns : goal.returns
 returns c = let r = c.args.r in
     let f = report_are r c.args.answers.now c.args.out.now in

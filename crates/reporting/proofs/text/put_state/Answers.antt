@@ -5,7 +5,6 @@ use Rattle.reporting.specs.Numbers.{number_text}
 use native.Mathlib.Omega.{arith}
 use lib.ListN.{length, take}
 use lib.Seq.{length-take-le}
-use borrow.Rule.Slice.PartMut.{mid_len}
 use Rattle.std.proofs.Common.{◌≡◌, ◌≤◌, Result}
 use Rattle.wire.proofs.EncodingLaws.{put_same}
 use Rattle.rollup.specs.declared.refusal.Refusal.{Refusal}
@@ -15,17 +14,6 @@ use Rattle.console.proofs.OutputLaws.{hex_size}
 use Rattle.reporting.specs.Text.{state_text}
 use Rattle.reporting.proofs.TextLaws.{state_refused, state_written, hex_put}
 use Rattle.reporting.proofs.text.put_state.Goals as goal
-
-pub slice_bounds-hex-end : goal.slice_bounds-hex-end
-slice_bounds-hex-end c =
-    let h : c.in-Ok.len ≤ length c.args.out.now = omega (arith, ap length_of c.in-Ok.is, c.requires.0) in
-    sym (length-take-le c.in-Ok.len c.args.out.now h)
-
-pub hex-requires : goal.hex-requires
-hex-requires c =
-    let e = ap length_of c.in-Ok.is in
-    let h : c.in-Ok.len ≤ length c.args.out.now = omega (arith, e, c.requires.0) in
-    omega (arith, length-take-le c.in-Ok.len c.args.out.now h, mid_len c.args.at (length c.args.text.now) c.args.text.now (omega arith), c.requires.1, e)
 
 pub bounds-text-end : goal.bounds-text-end
 bounds-text-end c =
