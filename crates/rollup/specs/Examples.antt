@@ -3,7 +3,7 @@ use Rattle.std.specs.Prelude.{◌≡◌, ℕ, zero, suc, Bool, true, false, ◌&
 use Rattle.std.proofs.Math.Option.{some, none}
 use Rattle.wire.specs.State.{State}
 use Rattle.wire.specs.Varints.{varint_bytes}
-use Rattle.wire.specs.Encoding.{number_field, int32_unless, length_prefix, bytes_field, hll_numbers, hll_bytes, outer_numbers, encode_of, Output, encode_step}
+use Rattle.wire.specs.Encoding.{pair, int32_unless, bytes_field, hll_numbers, hll_bytes, outer_numbers, encode_of, Output, encode_step}
 use Rattle.wire.specs.Examples.{Example, same_bytes, all_hold, varint_examples, varint_examples_hold}
 use Rattle.lists.specs.Values.{mark, marked, plain_end, valid}
 use Rattle.lists.specs.Sorting.{ascends}
@@ -69,7 +69,7 @@ write_examples =
     ∷ []
 
 pub write_examples_hold : all_hold write_examples ≡ true
-unfolding write_outcome fits counts_fit lists_fit flushed current_size state_form below_limit all_valid valid plain_end mark marked ascends written written_from encode_list encode_from encode_step encode_of outer_numbers hll_bytes hll_numbers bytes_field length_prefix int32_unless number_field varint_bytes
+unfolding write_outcome fits counts_fit lists_fit flushed current_size state_form below_limit all_valid valid plain_end mark marked ascends written written_from encode_list encode_from encode_step encode_of outer_numbers hll_bytes hll_numbers bytes_field pair int32_unless varint_bytes
 write_examples_hold = refl
 
 -- ---- all of them
