@@ -6,7 +6,7 @@
 use batch::unpacking;
 use console::input::{cut, read_bytes, read_cases, read_number};
 use console::memory::filled;
-use console::show::{Hex, bad_case, print_line, replay};
+use console::show::{Hex, Replayed, print_line, replay};
 use console::text::word;
 use exports::packing;
 use exports::packing::PackError;
@@ -28,11 +28,9 @@ fn print_walk(rt: &impl Print, batch: &[u8]) -> io::Result<()> {
     println!(rt; "")
 }
 
-fn walk_case(rt: &impl Print, word: &[u8], bytes: &mut [u8]) -> io::Result<()> {
-    let Some(n) = read_bytes(word, bytes) else {
-        return bad_case(rt);
-    };
-    print_walk(rt, &bytes[..n])
+fn walk_case(rt: &impl Print, word: &[u8], bytes: &mut [u8]) -> Replayed {
+    let n = read_bytes(word, bytes)?;
+    Some(print_walk(rt, &bytes[..n]))
 }
 
 fn print_batch(rt: &impl Print, batch: &[u8]) -> io::Result<()> {
@@ -40,40 +38,38 @@ fn print_batch(rt: &impl Print, batch: &[u8]) -> io::Result<()> {
     print_walk(rt, batch)
 }
 
-fn pack_case(rt: &impl Print, lines: &[u8], out: &mut [u8]) -> io::Result<()> {
+fn pack_case(rt: &impl Print, lines: &[u8], out: &mut [u8]) -> Replayed {
     let mut spare: [u8; 65536] = filled(0);
     if spare.len() < lines.len() || out.len() < 4 {
-        return bad_case(rt);
+        return None;
     }
-    match packing::pack(lines, &mut spare, out) {
+    Some(match packing::pack(lines, &mut spare, out) {
         Ok(n) => print_batch(rt, &out[..n]),
         Err(PackError::BadLine(line)) => println!(rt; "bad line {line}"),
         Err(PackError::TooLong(line)) => println!(rt; "too long at line {line}"),
-    }
+    })
 }
 
-// A case, by the number that it starts with.
-fn numbered(rt: &impl Print, room: u64, lines: &[u8], out: &mut [u8]) -> io::Result<()> {
-    if room == 0 {
-        return walk_case(rt, cut(lines, b'\n').0, out);
-    }
-    if 4096 < room || out.len() < room as usize {
-        return bad_case(rt);
-    }
-    pack_case(rt, lines, &mut out[..room as usize])
-}
-
-fn case(rt: &impl Print, lines: &[u8]) -> io::Result<()> {
+// A case, by the number that it starts with. Where its first line is all of it, it is none.
+fn numbered(rt: &impl Print, lines: &[u8]) -> Replayed {
     let (first, others) = cut(lines, b'\n');
-    print_line(rt, first)?;
-    let Some(room) = read_number(word(first, 0)) else {
-        return bad_case(rt);
-    };
-    if lines.len() <= first.len() {
-        return bad_case(rt);
-    }
+    let room = read_number(word(first, 0))?;
     let mut out: [u8; 4096] = filled(0);
-    numbered(rt, room, others, &mut out)
+    if lines.len() <= first.len() {
+        return None;
+    }
+    if room == 0 {
+        return walk_case(rt, cut(others, b'\n').0, &mut out);
+    }
+    pack_case(rt, others, out.get_mut(..room as usize)?)
+}
+
+fn case(rt: &impl Print, lines: &[u8]) -> Replayed {
+    let remark = print_line(rt, cut(lines, b'\n').0);
+    if remark.is_err() {
+        return Some(remark);
+    }
+    numbered(rt, lines)
 }
 
 fn main(rt: HostRuntime) {

@@ -3,15 +3,14 @@
 // does not have it is a bad case.
 #![tactic(auto)]
 
-ghost use Rattle.std.specs.Prelude.{◌≡◌, true, ◌≤◌, length};
+ghost use Rattle.std.specs.Prelude.{◌≡◌, true, ◌≤◌};
 ghost use Rattle.lists.specs.Values.{valid};
 ghost use Rattle.lists.specs.Registers.{LowerPre};
 ghost use Rattle.lists_cases.specs.Tests.{Mergeable, Insertable};
 
 use console::input::{read_bytes, read_cases};
 use console::memory::filled;
-use console::output::all_are;
-use console::show::{Hex, List, bad_case, print_line, replay};
+use console::show::{FILL, Hex, List, Replayed, Touched, print_line, replay};
 use console::text::{precision, read_list, read_value, word};
 use lists::merging::Merged;
 use lists::values::Sparse;
@@ -19,9 +18,6 @@ use std::io;
 use std::io::Print;
 
 mod tests;
-
-// What an output is filled with, to see which of its bytes are written.
-const FILL: u8 = 165;
 
 // ---- values
 
@@ -45,7 +41,7 @@ fn print_facts(rt: &impl Print, enc: Sparse, v: u32) -> io::Result<()>
     print_lower(rt, enc.normal_precision, index, rank)
 }
 
-fn value_case(rt: &impl Print, enc: Sparse, v: u32) -> io::Result<()> {
+fn print_value(rt: &impl Print, enc: Sparse, v: u32) -> io::Result<()> {
     let marked = u8::from(enc.is_rho_encoded(v));
     let ok = enc.is_valid(v);
     print!(rt; "{marked} {}", u8::from(ok))?;
@@ -55,89 +51,54 @@ fn value_case(rt: &impl Print, enc: Sparse, v: u32) -> io::Result<()> {
     println!(rt; "")
 }
 
-fn value_line(rt: &impl Print, enc: Sparse, line: &[u8]) -> io::Result<()> {
-    match read_value(word(line, 3)) {
-        Some(v) => value_case(rt, enc, v),
-        None => bad_case(rt),
-    }
+fn value_case(rt: &impl Print, enc: Sparse, line: &[u8]) -> Replayed {
+    let v = read_value(word(line, 3))?;
+    Some(print_value(rt, enc, v))
 }
 
 // ---- lists
 
-fn decode_case(rt: &impl Print, enc: Sparse, bytes: &[u8]) -> io::Result<()> {
+// A case reads its operands into memory of its own. A function that handed them to a closure would be no plainer, since the closure would not know how many there
+// are at most, which `sort_runs` and the other functions ask for.
+
+fn decode_case(rt: &impl Print, enc: Sparse, line: &[u8]) -> Replayed {
+    let mut bytes = [0u8; 512];
+    let n = read_bytes(word(line, 3), &mut bytes)?;
     let mut values = [0u32; 512];
-    if 512 < bytes.len() {
-        return bad_case(rt);
-    }
-    match enc.decode_validated_into(bytes, &mut values) {
-        Ok(n) => println!(rt; "{}", List(&values[..n])),
+    Some(match enc.decode_validated_into(&bytes[..n], &mut values) {
+        Ok(k) => println!(rt; "{}", List(&values[..k])),
         Err(e) => println!(rt; "refused {}", e as u8),
-    }
+    })
 }
 
-fn decode_line(rt: &impl Print, enc: Sparse, line: &[u8]) -> io::Result<()> {
-    let mut bytes: [u8; 4096] = filled(0);
-    let Some(n) = read_bytes(word(line, 3), &mut bytes) else {
-        return bad_case(rt);
-    };
-    decode_case(rt, enc, &bytes[..n])
+fn gap_case(rt: &impl Print, line: &[u8]) -> Replayed {
+    let v = read_value(word(line, 1))?;
+    Some(println!(rt; "{}", lists::merging::gap_len(v)))
 }
 
-fn gap_line(rt: &impl Print, line: &[u8]) -> io::Result<()> {
-    match read_value(word(line, 1)) {
-        Some(v) => println!(rt; "{}", lists::merging::gap_len(v)),
-        None => bad_case(rt),
-    }
-}
-
-// The first n bytes, and whether those behind them are as they were.
-fn print_written(rt: &impl Print, n: usize, out: &[u8]) -> io::Result<()>
-    requires { n ≤ length out.now }
-{
-    print!(rt; "{}", Hex(&out[..n]))?;
-    if !all_are(&out[n..], FILL) {
-        print!(rt; " touched")?;
-    }
-    println!(rt; "")
-}
-
-fn encode_case(rt: &impl Print, list: &[u32]) -> io::Result<()> {
+#[tactic(auto, using(lists::proofs::MergeLaws::length_encode))]
+fn encode_case(rt: &impl Print, line: &[u8]) -> Replayed {
+    let mut list = [0u32; 512];
+    let n = read_list(word(line, 1), &mut list)?;
+    let list = &list[..n];
     if !lists::checking::is_ascending(list) {
-        return bad_case(rt);
+        return None;
     }
-    let n = lists::merging::written_len(list);
-    if 4096 < n {
-        return bad_case(rt);
-    }
-    print!(rt; "{n} ")?;
+    let len = lists::merging::written_len(list);
     let mut out = [FILL; 4096];
-    let end = lists::merging::encode_sparse(list, &mut out);
-    print_written(rt, end, &out)
-}
-
-fn encode_line(rt: &impl Print, line: &[u8]) -> io::Result<()> {
-    let mut list = [0u32; 512];
-    let Some(n) = read_list(word(line, 1), &mut list) else {
-        return bad_case(rt);
-    };
-    encode_case(rt, &list[..n])
-}
-
-fn sort_case(rt: &impl Print, list: &mut [u32]) -> io::Result<()> {
-    let mut scratch = [0u32; 512];
-    if 512 < list.len() {
-        return bad_case(rt);
+    if out.len() < len {
+        return None;
     }
-    lists::sorting::sort_runs(list, &mut scratch);
-    println!(rt; "{}", List(list))
+    let end = lists::merging::encode_sparse(list, &mut out);
+    Some(println!(rt; "{len} {}{}", Hex(&out[..end]), Touched(&out[end..])))
 }
 
-fn sort_line(rt: &impl Print, line: &[u8]) -> io::Result<()> {
+fn sort_case(rt: &impl Print, line: &[u8]) -> Replayed {
     let mut list = [0u32; 512];
-    let Some(n) = read_list(word(line, 1), &mut list) else {
-        return bad_case(rt);
-    };
-    sort_case(rt, &mut list[..n])
+    let n = read_list(word(line, 1), &mut list)?;
+    let mut scratch = [0u32; 512];
+    lists::sorting::sort_runs(&mut list[..n], &mut scratch);
+    Some(println!(rt; "{}", List(&list[..n])))
 }
 
 // A list, and how many bytes it takes.
@@ -152,28 +113,18 @@ fn merges(enc: Sparse, l: &[u32]) -> bool
     l.len() <= 512 && lists::checking::is_ascending(l) && enc.all_valid(l)
 }
 
-fn merge_case(rt: &impl Print, enc: Sparse, a: &[u32], b: &[u32]) -> io::Result<()> {
-    if !merges(enc, a) {
-        return bad_case(rt);
-    }
-    if !merges(enc, b) {
-        return bad_case(rt);
+fn merge_case(rt: &impl Print, enc: Sparse, line: &[u8]) -> Replayed {
+    let mut a = [0u32; 512];
+    let n = read_list(word(line, 3), &mut a)?;
+    let mut b = [0u32; 512];
+    let m = read_list(word(line, 4), &mut b)?;
+    let (a, b) = (&a[..n], &b[..m]);
+    if !merges(enc, a) || !merges(enc, b) {
+        return None;
     }
     let mut out = [0u32; 1024];
     let r = enc.merge_dedupe_into(a, b, &mut out);
-    print_merged(rt, &out[..r.len], r.bytes)
-}
-
-fn merge_line(rt: &impl Print, enc: Sparse, line: &[u8]) -> io::Result<()> {
-    let mut a = [0u32; 512];
-    let Some(n) = read_list(word(line, 3), &mut a) else {
-        return bad_case(rt);
-    };
-    let mut b = [0u32; 512];
-    let Some(m) = read_list(word(line, 4), &mut b) else {
-        return bad_case(rt);
-    };
-    merge_case(rt, enc, &a[..n], &b[..m])
+    Some(print_merged(rt, &out[..r.len], r.bytes))
 }
 
 // Whether a list of this many bytes is one that a merge can have left.
@@ -186,111 +137,55 @@ fn inserts(enc: Sparse, l: &[u32], bytes: usize) -> bool
         && bytes <= 0xffff_ffff
 }
 
-// Values go into the first n of `union`.
-fn insert_case(
-    rt: &impl Print,
-    enc: Sparse,
-    union: &mut [u32],
-    n: usize,
-    incoming: &[u32],
-    bytes: usize,
-) -> io::Result<()>
-    requires { n ≤ length union.old }
-{
-    if !inserts(enc, &union[..n], bytes) {
-        return bad_case(rt);
-    }
-    if 512 < incoming.len() {
-        return bad_case(rt);
-    }
-    if union.len() - n < incoming.len() {
-        return bad_case(rt);
-    }
-    let r = enc.insert_dedupe(union, Merged { len: n, bytes }, incoming);
-    print_merged(rt, &union[..r.len], r.bytes)
-}
-
-fn insert_line(rt: &impl Print, enc: Sparse, line: &[u8]) -> io::Result<()> {
+// Values go into the list at the front of `union`.
+fn insert_case(rt: &impl Print, enc: Sparse, line: &[u8]) -> Replayed {
     let mut union = [0u32; 1024];
-    let Some(n) = read_list(word(line, 4), &mut union) else {
-        return bad_case(rt);
-    };
+    let n = read_list(word(line, 4), &mut union)?;
     let mut incoming = [0u32; 512];
-    let Some(m) = read_list(word(line, 5), &mut incoming) else {
-        return bad_case(rt);
-    };
-    match read_value(word(line, 3)) {
-        Some(bytes) => insert_case(rt, enc, &mut union, n, &incoming[..m], bytes as usize),
-        None => bad_case(rt),
+    let m = read_list(word(line, 5), &mut incoming)?;
+    let bytes = read_value(word(line, 3))? as usize;
+    if !inserts(enc, &union[..n], bytes) || union.len() - n < m {
+        return None;
     }
+    let r = enc.insert_dedupe(&mut union, Merged { len: n, bytes }, &incoming[..m]);
+    Some(print_merged(rt, &union[..r.len], r.bytes))
 }
 
-fn count_case(rt: &impl Print, enc: Sparse, list: &[u32]) -> io::Result<()> {
-    if !merges(enc, list) {
-        return bad_case(rt);
-    }
-    if !enc.has_distinct_slots(list) {
-        return bad_case(rt);
-    }
-    println!(rt; "{}", enc.distinct_indices(list))
-}
-
-fn count_line(rt: &impl Print, enc: Sparse, line: &[u8]) -> io::Result<()> {
+fn count_case(rt: &impl Print, enc: Sparse, line: &[u8]) -> Replayed {
     let mut list = [0u32; 512];
-    let Some(n) = read_list(word(line, 3), &mut list) else {
-        return bad_case(rt);
-    };
-    count_case(rt, enc, &list[..n])
+    let n = read_list(word(line, 3), &mut list)?;
+    let list = &list[..n];
+    if !merges(enc, list) || !enc.has_distinct_slots(list) {
+        return None;
+    }
+    Some(println!(rt; "{}", enc.distinct_indices(list)))
 }
 
 // ---- registers
 
 // All bytes, how many of the registers of precision p are not zero, and the largest.
-fn print_registers(rt: &impl Print, p: u32, registers: &[u8]) -> io::Result<()> {
+fn print_registers(rt: &impl Print, p: u32, registers: &[u8]) -> Replayed {
     if !tests::holds(p, registers) {
-        return bad_case(rt);
+        return None;
     }
     let count = lists::registers::count_not_zero(registers, p);
     let top = lists::registers::largest_register(registers, p);
-    println!(rt; "{} {count} {top}", Hex(registers))
+    Some(println!(rt; "{} {count} {top}", Hex(registers)))
 }
 
 // The listed values raise registers of precision q.
-fn set_case(
-    rt: &impl Print,
-    enc: Sparse,
-    q: u32,
-    registers: &mut [u8],
-    list: &[u32],
-) -> io::Result<()> {
-    let p = enc.normal_precision;
-    if p < q {
-        return bad_case(rt);
-    }
-    if q < 4 {
-        return bad_case(rt);
-    }
-    if !tests::holds(q, &registers[..]) {
-        return bad_case(rt);
-    }
-    if !enc.all_valid(list) {
-        return bad_case(rt);
+fn set_case(rt: &impl Print, enc: Sparse, line: &[u8]) -> Replayed {
+    let mut registers: [u8; 4096] = filled(0);
+    let n = read_bytes(word(line, 4), &mut registers)?;
+    let mut list = [0u32; 512];
+    let m = read_list(word(line, 5), &mut list)?;
+    let (registers, list) = (&mut registers[..n], &list[..m]);
+    let (p, q) = (enc.normal_precision, precision(word(line, 3)));
+    if p < q || q < 4 || !tests::holds(q, &registers[..]) || !enc.all_valid(list) {
+        return None;
     }
     lists::registers::set_registers(registers, enc, p - q, list);
     print_registers(rt, q, registers)
-}
-
-fn set_line(rt: &impl Print, enc: Sparse, line: &[u8]) -> io::Result<()> {
-    let mut registers: [u8; 4096] = filled(0);
-    let Some(n) = read_bytes(word(line, 4), &mut registers) else {
-        return bad_case(rt);
-    };
-    let mut list = [0u32; 512];
-    let Some(m) = read_list(word(line, 5), &mut list) else {
-        return bad_case(rt);
-    };
-    let to = precision(word(line, 3));
-    set_case(rt, enc, to, &mut registers[..n], &list[..m])
 }
 
 // Whether registers of precision p can be lowered by d bits.
@@ -303,97 +198,61 @@ fn lowers(p: u32, d: u32, registers: &[u8]) -> bool
 }
 
 // The source's registers of precision p go into the target's of precision q.
-fn max_case(rt: &impl Print, p: u32, q: u32, source: &[u8], target: &mut [u8]) -> io::Result<()> {
-    if p < q {
-        return bad_case(rt);
-    }
-    if !tests::holds(q, &target[..]) {
-        return bad_case(rt);
-    }
-    if !lowers(p, p - q, source) {
-        return bad_case(rt);
+fn max_case(rt: &impl Print, line: &[u8]) -> Replayed {
+    let mut source: [u8; 4096] = filled(0);
+    let n = read_bytes(word(line, 3), &mut source)?;
+    let mut target: [u8; 4096] = filled(0);
+    let m = read_bytes(word(line, 4), &mut target)?;
+    let (source, target) = (&source[..n], &mut target[..m]);
+    let (p, q) = (precision(word(line, 1)), precision(word(line, 2)));
+    if p < q || !tests::holds(q, &target[..]) || !lowers(p, p - q, source) {
+        return None;
     }
     if p == q {
         lists::registers::max_into(target, source, q);
-        return print_registers(rt, q, target);
+    } else {
+        lists::registers::downgrade_registers_max_into(source, p - q, target, q);
     }
-    lists::registers::downgrade_registers_max_into(source, p - q, target, q);
     print_registers(rt, q, target)
 }
 
-fn max_line(rt: &impl Print, line: &[u8]) -> io::Result<()> {
-    let mut source: [u8; 4096] = filled(0);
-    let Some(n) = read_bytes(word(line, 3), &mut source) else {
-        return bad_case(rt);
-    };
-    let mut target: [u8; 4096] = filled(0);
-    let Some(m) = read_bytes(word(line, 4), &mut target) else {
-        return bad_case(rt);
-    };
-    let from = precision(word(line, 1));
-    let to = precision(word(line, 2));
-    max_case(rt, from, to, &source[..n], &mut target[..m])
-}
-
 // Registers of precision p become those of precision q, where they lie.
-fn lower_case(rt: &impl Print, p: u32, q: u32, registers: &mut [u8]) -> io::Result<()> {
-    if p < q {
-        return bad_case(rt);
-    }
-    if !lowers(p, p - q, &registers[..]) {
-        return bad_case(rt);
+fn lower_case(rt: &impl Print, line: &[u8]) -> Replayed {
+    let mut registers: [u8; 4096] = filled(0);
+    let n = read_bytes(word(line, 3), &mut registers)?;
+    let registers = &mut registers[..n];
+    let (p, q) = (precision(word(line, 1)), precision(word(line, 2)));
+    if p < q || !lowers(p, p - q, &registers[..]) {
+        return None;
     }
     lists::registers::lower_registers(registers, p, p - q);
     print_registers(rt, q, registers)
 }
 
-fn lower_line(rt: &impl Print, line: &[u8]) -> io::Result<()> {
-    let mut registers: [u8; 4096] = filled(0);
-    let Some(n) = read_bytes(word(line, 3), &mut registers) else {
-        return bad_case(rt);
-    };
-    let from = precision(word(line, 1));
-    let to = precision(word(line, 2));
-    lower_case(rt, from, to, &mut registers[..n])
-}
-
 // ---- lines
 
-// A case of a pair of precisions.
-fn pair_case(rt: &impl Print, kind: u8, enc: Sparse, line: &[u8]) -> io::Result<()> {
-    match kind {
-        b'v' => value_line(rt, enc, line),
-        b'd' => decode_line(rt, enc, line),
-        b'm' => merge_line(rt, enc, line),
-        b'i' => insert_line(rt, enc, line),
-        b'n' => count_line(rt, enc, line),
-        _ => set_line(rt, enc, line),
-    }
-}
-
-fn pair_line(rt: &impl Print, kind: u8, line: &[u8]) -> io::Result<()> {
-    let p = precision(word(line, 1));
-    let s = precision(word(line, 2));
-    if !tests::fits(p, s) {
-        return bad_case(rt);
-    }
-    pair_case(rt, kind, Sparse::new(p, s), line)
+// The pair of precisions that a line has, if a list can have it.
+fn pair(line: &[u8]) -> Option<Sparse> {
+    let (p, s) = (precision(word(line, 1)), precision(word(line, 2)));
+    tests::fits(p, s).then(|| Sparse::new(p, s))
 }
 
 // A line: a letter, and behind a blank its operands.
-fn case(rt: &impl Print, line: &[u8]) -> io::Result<()> {
-    let Some(&kind) = line.first() else {
-        return bad_case(rt);
-    };
-    match kind {
-        b'#' => print_line(rt, line),
-        b'v' | b'd' | b'm' | b'i' | b'n' | b'r' => pair_line(rt, kind, line),
-        b'g' => gap_line(rt, line),
-        b'e' => encode_line(rt, line),
-        b's' => sort_line(rt, line),
-        b'x' => max_line(rt, line),
-        b'l' => lower_line(rt, line),
-        _ => bad_case(rt),
+fn case(rt: &impl Print, line: &[u8]) -> Replayed {
+    match *line.first()? {
+        b'#' => Some(print_line(rt, line)),
+        b'v' => value_case(rt, pair(line)?, line),
+        b'd' => decode_case(rt, pair(line)?, line),
+        b'm' => merge_case(rt, pair(line)?, line),
+        b'i' => insert_case(rt, pair(line)?, line),
+        b'n' => count_case(rt, pair(line)?, line),
+        b'r' => set_case(rt, pair(line)?, line),
+        b'g' => gap_case(rt, line),
+        b'e' => encode_case(rt, line),
+        b's' => sort_case(rt, line),
+        b'x' => max_case(rt, line),
+        b'l' => lower_case(rt, line),
+        _ => None,
     }
 }
 

@@ -1,20 +1,20 @@
 -- Laws of what a line stands for: byte strings one behind the other, in a buffer that is filled from the front.
 use mathlib.Core.Path.{◌≡◌, refl, sym, ap, ap₂, ◌∙◌, subst}
 use mathlib.Core.List.{List, [], ◌∷◌, ◌++◌, append_assoc, append-nil}
-use mathlib.Core.Bool.{Bool, true, false, cond, true≢false}
+use mathlib.Core.Bool.{Bool, cond, true≢false}
 use Rattle.std.specs.Prelude.{Option, Some, None, is_some}
 use mathlib.Core.Logic.{inl, inr, ◌≢◌}
 use Rattle.std.proofs.lemmas.List.{length-take}
-use Prim.Native.Nat.{ℕ, zero, suc, ◌+◌, ◌*◌, ◌-◌, ◌/◌, ◌<◌, ◌≤◌}
+use Prim.Native.Nat.{ℕ, zero, suc, ◌+◌, ◌-◌, ◌/◌, ◌<◌, ◌≤◌}
 use native.Mathlib.Numerals.{add-one}
 use native.Mathlib.Omega.{arith}
-use lib.Dec.{eqb, ltb}
+use lib.Dec.{eqb}
 use lib.ListN.{length, take, drop, length-append, drop_of_length-le, take-append-drop, length-drop}
-use lib.Seq.{length-take-le, take_at, drop-cons, drop-drop}
+use lib.Seq.{length-take-le, take_at, drop-cons}
 use borrow.Rule.Slice.PartMut.{mid_of, post_of, put_mid, mid_len}
 use borrow.Author.Tests.{eq-eqb, ne_eqb}
 use Rattle.std.specs.Counts.{IsPrefixLen}
-use Rattle.console.specs.Input.{up_to, PieceOf, digit_of, byte_then, cons_to, onto, decimal_of, below64, hex_of, pairs_of, PairsPost}
+use Rattle.console.specs.Input.{up_to, PieceOf, digit_of, byte_then, onto, decimal_of, below64, hex_of, pairs_of, PairsPost}
 use Rattle.roll_cases.specs.Expanding.{joined, times_of, times, times_by, word_bytes, words_bytes, line_bytes, Expands}
 
 -- ---- byte strings, or None
@@ -181,8 +181,3 @@ module _ (rest word next out after : List ℕ) (n : ℕ) (r : Option ℕ) (first
       joined_long (take n out) l (length out) (word_bytes word) (line_bytes next)
       (subst (λ (x : Option ℕ). Expands (take n out) (word_bytes word) out x after) f p)
       (sym (ap (onto (take n out)) whole) ∙ w)
-
--- ---- for callers: the front that an answer counts
-
-pub expanded : (done : List ℕ) (x : Option (List ℕ)) (out after : List ℕ) (r : Option ℕ) (n : ℕ) → r ≡ Some n → Expands done x out r after → IsPrefixLen n after
-expanded done x out after r n e p = (subst (λ (y : Option ℕ). Expands done x out y after) e p).1

@@ -4,27 +4,24 @@
 
 use console::input::read_cases;
 use console::memory::filled;
-use console::show::{bad_case, print_line, replay};
-use std::io;
+use console::show::{Replayed, print_line, replay};
 use std::io::Print;
 
 mod expanding;
 
 // A batch may have one byte more than question 24 allows.
-fn batch_line(rt: &impl Print, line: &[u8]) -> io::Result<()> {
+fn batch_line(rt: &impl Print, line: &[u8]) -> Replayed {
     let mut batch: [u8; 65537] = filled(0);
-    let Some(n) = expanding::expand(line, &mut batch) else {
-        return bad_case(rt);
-    };
+    let n = expanding::expand(line, &mut batch)?;
     let mut text = [0u8; 350000];
     let len = reporting::roll_batch(&batch[..n], &mut text);
-    rt.write_all(&text[..len])
+    Some(rt.write_all(&text[..len]))
 }
 
 // A line that starts with `#` is a remark. One with no bytes is a batch with none.
-fn case(rt: &impl Print, line: &[u8]) -> io::Result<()> {
+fn case(rt: &impl Print, line: &[u8]) -> Replayed {
     match line {
-        [b'#', ..] => print_line(rt, line),
+        [b'#', ..] => Some(print_line(rt, line)),
         _ => batch_line(rt, line),
     }
 }

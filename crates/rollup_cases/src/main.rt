@@ -2,27 +2,28 @@
 // line is, and how the vectors were made, is said in compare/vectors/README.md.
 #![tactic(auto)]
 
-ghost use Rattle.std.specs.Prelude.{◌≤◌, ◌<◌, length, IfOk};
+ghost use Rattle.std.specs.Prelude.{◌≤◌, ◌<◌, length, IfOk, IfSome};
+ghost use Rattle.rollup.specs.Refusals.{length_of};
 
 use console::input::{cut, read_bytes, read_cases};
 use console::memory::filled;
-use console::show::{bad_case, print_line};
+use console::show::{FILL, Replayed, bad_case, print_line};
 use console::text::{number, precision, read_list, word};
 use rollup::accumulator::{Accumulator, Form};
 use rollup::adding::Fitted;
 use rollup::memory::Memory;
+use rollup::refusal::Refusal;
 use std::io;
 use std::io::Print;
 
 mod answers;
 
-// What is lent is filled, to see which register bytes are written, with a register that no head allows and a value that no list allows.
-const BYTE: u8 = 165;
-
+// What the lists that are lent are filled with: a value that no list allows, as `FILL` is a register that no head allows.
 const CELL: u32 = 2779096485;
 
 // ---- heads
 
+// Any other number is an unstarted head, as a word that is no number is 0: a line `h` is never refused.
 fn form(v: u32) -> Form {
     match v {
         1 => Form::Sparse,
@@ -51,45 +52,16 @@ fn head_in(line: &[u8]) -> Accumulator {
     }
 }
 
-// ---- memory
-
-// Bytes at the front of the registers.
-fn registers_line(rt: &impl Print, line: &[u8], registers: &mut [u8]) -> io::Result<()> {
-    match read_bytes(word(line, 1), registers) {
-        Some(_) => println!(rt; "ok"),
-        None => bad_case(rt),
-    }
-}
-
-// Values at the front of a list.
-fn list_line(rt: &impl Print, line: &[u8], list: &mut [u32]) -> io::Result<()> {
-    match read_list(word(line, 1), list) {
-        Some(_) => println!(rt; "ok"),
-        None => bad_case(rt),
-    }
-}
-
 // ---- calls
 
-fn add_case(
-    rt: &impl Print,
+// The same as `Accumulator::add`, by the function that asks for a head that fits; no roll-up where it does not.
+fn add_fitting(
     head: &mut Accumulator,
     memory: &mut Memory,
     bytes: &[u8],
-) -> io::Result<()> {
-    let answer = head.add(memory, bytes);
-    answers::print_after(rt, answer, *head, memory)
-}
-
-// The same by the function that asks for a head that fits.
-fn fitting_case(
-    rt: &impl Print,
-    head: &mut Accumulator,
-    memory: &mut Memory,
-    bytes: &[u8],
-) -> io::Result<()> {
+) -> Option<Result<(), Refusal>> {
     if !head.fits_in(memory) {
-        return bad_case(rt);
+        return None;
     }
     let mut fitted = Fitted {
         head: *head,
@@ -97,24 +69,20 @@ fn fitting_case(
     };
     let answer = fitted.add(memory, bytes);
     *head = fitted.head;
-    answers::print_after(rt, answer, *head, memory)
+    Some(answer)
 }
 
-fn add_line(
-    rt: &impl Print,
-    kind: u8,
-    head: &mut Accumulator,
-    memory: &mut Memory,
-    line: &[u8],
-) -> io::Result<()> {
+// A state is added, by one of the two functions.
+fn add_line<
+    P: Print,
+    F: Fn(&mut Accumulator, &mut Memory, &[u8]) -> Option<Result<(), Refusal>> + Drop,
+>(rt: &P, head: &mut Accumulator, memory: &mut Memory, line: &[u8], add: F) -> Replayed
+    requires { F.IsAlwaysCallable add }
+{
     let mut bytes: [u8; 4096] = filled(0);
-    let Some(n) = read_bytes(word(line, 1), &mut bytes) else {
-        return bad_case(rt);
-    };
-    match kind {
-        b'f' => fitting_case(rt, head, memory, &bytes[..n]),
-        _ => add_case(rt, head, memory, &bytes[..n]),
-    }
+    let n = read_bytes(word(line, 1), &mut bytes)?;
+    let answer = add(head, memory, &bytes[..n])?;
+    Some(answers::print_after(rt, answer, *head, memory))
 }
 
 // A size of at most `most`, which stands for a larger one too.
@@ -124,34 +92,29 @@ fn size(word: &[u8], most: usize) -> usize
     (number(word) as usize).min(most)
 }
 
-// What is only read is lent to the writer as `&`.
-fn write_case(
-    rt: &impl Print,
-    head: Accumulator,
-    memory: &mut Memory,
-    out: &mut [u8],
-) -> io::Result<()> {
+// What is only read is lent to the writer as `&`. `write` and `write_fitting` take the memory apart themselves: a closure over what they lend would have six parameters.
+fn write(head: Accumulator, memory: &mut Memory, out: &mut [u8]) -> Option<Result<usize, Refusal>>
+    ensures { IfSome result (λ written. length_of written ≤ length out.new) }
+{
     let (registers, sparse, pending, scratch) = (
         &mut *memory.registers,
         &mut *memory.sparse,
         &mut *memory.pending,
         &mut *memory.scratch,
     );
-    let written = head.write(registers, sparse, pending, scratch, out);
-    answers::print_written(rt, written, out)?;
-    answers::print_memory(rt, head, memory)?;
-    println!(rt; "")
+    Some(head.write(registers, sparse, pending, scratch, out))
 }
 
-// The same by the function that asks for a head that fits.
-fn write_fitting_case(
-    rt: &impl Print,
+// The same by the function that asks for a head that fits; no roll-up where it does not.
+fn write_fitting(
     head: Accumulator,
     memory: &mut Memory,
     out: &mut [u8],
-) -> io::Result<()> {
+) -> Option<Result<usize, Refusal>>
+    ensures { IfSome result (λ written. length_of written ≤ length out.new) }
+{
     if !head.fits_in(memory) {
-        return bad_case(rt);
+        return None;
     }
     let (registers, sparse, pending, scratch) = (
         &mut *memory.registers,
@@ -159,52 +122,44 @@ fn write_fitting_case(
         &mut *memory.pending,
         &mut *memory.scratch,
     );
-    let written = head.write_fitting(registers, sparse, pending, scratch, out);
-    answers::print_written(rt, written, out)?;
-    answers::print_memory(rt, head, memory)?;
-    println!(rt; "")
+    Some(head.write_fitting(registers, sparse, pending, scratch, out))
 }
 
-fn write_line(
-    rt: &impl Print,
-    kind: u8,
-    head: Accumulator,
-    memory: &mut Memory,
-    line: &[u8],
-) -> io::Result<()> {
-    let n = size(word(line, 1), 20480);
-    let mut out: [u8; 20480] = filled(BYTE);
-    match kind {
-        b'u' => write_fitting_case(rt, head, memory, &mut out[..n]),
-        _ => write_case(rt, head, memory, &mut out[..n]),
-    }
+// The roll-up is written, by one of the two functions.
+fn write_line<
+    P: Print,
+    F: Fn(Accumulator, &mut Memory, &mut [u8]) -> Option<Result<usize, Refusal>> + Drop,
+>(rt: &P, head: Accumulator, memory: &mut Memory, line: &[u8], write: F) -> Replayed
+    requires callable { F.IsAlwaysCallable write }
+    requires inside { (h : _) (m : _) (o : _) (r : _) (m2 : _) (o2 : _) → F.post write h m o r m2 o2 → IfSome r (λ written. length_of written ≤ length o2.now) }
+{
+    let mut out: [u8; 20480] = filled(FILL);
+    let out = &mut out[..size(word(line, 1), 20480)];
+    let written = write(head, memory, out)?;
+    Some(answers::print_written(rt, written, out, head, memory))
 }
 
 // ---- lines
 
 // A line at a roll-up: a letter, and behind a blank its operands.
-fn case(
-    rt: &impl Print,
-    head: &mut Accumulator,
-    memory: &mut Memory,
-    line: &[u8],
-) -> io::Result<()> {
-    let Some(&kind) = line.first() else {
-        return bad_case(rt);
-    };
-    match kind {
-        b'a' | b'f' => add_line(rt, kind, head, memory, line),
-        b'o' | b'u' => write_line(rt, kind, *head, memory, line),
+fn case(rt: &impl Print, head: &mut Accumulator, memory: &mut Memory, line: &[u8]) -> Replayed {
+    match *line.first()? {
+        b'a' => add_line(rt, head, memory, line, |head, memory, bytes| {
+            Some(head.add(memory, bytes))
+        }),
+        b'f' => add_line(rt, head, memory, line, add_fitting),
+        b'o' => write_line(rt, *head, memory, line, write),
+        b'u' => write_line(rt, *head, memory, line, write_fitting),
         b'h' => {
             *head = head_in(line);
-            println!(rt; "ok")
+            Some(println!(rt; "ok"))
         }
-        b'r' => registers_line(rt, line, memory.registers),
-        b'k' => list_line(rt, line, memory.sparse),
-        b'w' => list_line(rt, line, memory.pending),
-        b'q' => answers::print_asked(rt, *head),
-        b'#' => print_line(rt, line),
-        _ => bad_case(rt),
+        b'r' => read_bytes(word(line, 1), memory.registers).map(|_| println!(rt; "ok")),
+        b'k' => read_list(word(line, 1), memory.sparse).map(|_| println!(rt; "ok")),
+        b'w' => read_list(word(line, 1), memory.pending).map(|_| println!(rt; "ok")),
+        b'q' => Some(answers::print_asked(rt, *head)),
+        b'#' => Some(print_line(rt, line)),
+        _ => None,
     }
 }
 
@@ -217,7 +172,10 @@ fn calls<'a>(rt: &impl Print, text: &'a [u8], memory: &mut Memory) -> io::Result
     let mut rest = text;
     while !rest.is_empty() && rest[0] != b'n' {
         let (line, next) = cut(rest, b'\n');
-        case(rt, &mut head, memory, line)?;
+        match case(rt, &mut head, memory, line) {
+            Some(done) => done?,
+            None => bad_case(rt),
+        }
         rest = next;
     }
     Ok(rest)
@@ -235,7 +193,7 @@ fn lend<'a>(
     requires { (r ≤ 16384) × (k ≤ 8192) × (w ≤ 8192) × (s ≤ 8192) }
     ensures { IfOk result (λ rest. length rest.now ≤ length text.now) }
 {
-    let mut registers: [u8; 16384] = filled(BYTE);
+    let mut registers: [u8; 16384] = filled(FILL);
     let mut sparse: [u32; 8192] = filled(CELL);
     let mut pending: [u32; 8192] = filled(CELL);
     let mut scratch: [u32; 8192] = filled(CELL);
