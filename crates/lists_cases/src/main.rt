@@ -58,6 +58,9 @@ fn value_case(rt: &impl Print, enc: Sparse, line: &[u8]) -> Replayed {
 
 // ---- lists
 
+// A case reads its operands into memory of its own. A function that handed them to a closure would be no plainer, since the closure would not know how many there
+// are at most, which `sort_runs` and the other functions ask for.
+
 fn decode_case(rt: &impl Print, enc: Sparse, line: &[u8]) -> Replayed {
     let mut bytes = [0u8; 512];
     let n = read_bytes(word(line, 3), &mut bytes)?;
