@@ -17,7 +17,7 @@ const LEN: u32 = 2;
 const I32: u32 = 5;
 
 // Where the bytes of a field stand.
-#[derive(Clone, Copy)]
+#[derive(Clone, Copy, Default)]
 pub struct Part {
     pub start: usize,
     pub len: usize,
