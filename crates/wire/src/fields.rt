@@ -7,7 +7,7 @@ ghost use Rattle.wire.specs.Fields.{TagPost, TakePost, DelimitedPost, SkipPost};
 use crate::read_error::ReadError;
 use crate::varint::{Cursor, read_varint};
 
-// Wire types.
+// Wire types. (Numbers and no enum: they are patterns over `tag % 8`, in the one match that there is of them.)
 const VARINT: u32 = 0;
 
 const I64: u32 = 1;
