@@ -60,8 +60,8 @@ fn field_len(tag: u32, d: Option<&[u8]>) -> usize
     pair_len(tag, d.len() as u64) + d.len()
 }
 
-// ---- writing: each puts its bytes at `at`, where there is room for them, and answers the position past them. (The whole output and a place in it: the contract says
-// what stands at that place of the whole.)
+// ---- writing: each puts its bytes at `at`, where there is room for them, and answers the position past them. (The whole output and a place in it: the contract
+// says what stands at that place of the whole.)
 
 fn put_pair(out: &mut [u8], at: usize, tag: u32, v: u64) -> usize
     requires { at + length (pair tag v) ≤ length out.old }

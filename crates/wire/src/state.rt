@@ -91,7 +91,8 @@ impl Part {
     }
 }
 
-// One field of the nested message. (`m` and `base` stay two, here, in `parse_hll` and in compact.rt: a struct of both would be taken apart in each of the four functions.)
+// One field of the nested message. (`m` and `base` stay two, here, in `parse_hll` and in compact.rt: a struct of both would be taken apart in each of the four
+// functions.)
 fn hll_field(
     m: &[u8],
     base: usize,

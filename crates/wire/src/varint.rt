@@ -12,8 +12,8 @@ pub struct Cursor {
     pub at: usize,
 }
 
-// The varint at a cursor, of any length. A byte's low seven bits are payload, and one of 128 or more says that another byte follows. A shift keeps the low 64 bits, so
-// the tenth byte gives one bit.
+// The varint at a cursor, of any length. A byte's low seven bits are payload, and one of 128 or more says that another byte follows. A shift keeps the low 64 bits,
+// so the tenth byte gives one bit.
 fn long_varint(s: &[u8], c: Cursor) -> Result<(u64, Cursor), ReadError>
     ensures { VarintPost s.now c.at result }
 {
