@@ -9,7 +9,7 @@ use native.Mathlib.Omega.{arith}
 use lib.Dec.{eqb}
 use lib.ListN.{length, get_or, length-take, length-map}
 use Rattle.std.specs.Prelude.{Ok, Err}
-use Rattle.wire.proofs.VarintLaws.{side}
+use Rattle.std.proofs.lemmas.Bool.{cases_lt as side}
 use Rattle.batch.specs.declared.chain.ChainError.TheVariants.{Broken}
 use Rattle.rollup.specs.Accumulator.{Mem}
 use Rattle.batch.specs.declared.closing.Report.{Report}

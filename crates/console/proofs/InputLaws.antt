@@ -16,19 +16,12 @@ use Rattle.std.specs.Counts.{IsPrefixLen}
 use Rattle.std.specs.List.{AllWithin, HoldsAt}
 use Rattle.std.proofs.lemmas.Iterator.{index_from_first}
 use Rattle.std.proofs.lemmas.List.{take_all}
+use Rattle.std.proofs.lemmas.Bool.{cases_lt as side}
 use Rattle.std.specs.declared.ops.ControlFlow.{ControlFlow}
 use Rattle.std.specs.declared.ops.ControlFlow.TheVariants.{Continue, Break}
 use Rattle.console.specs.declared.input.StreamError.TheVariants.{Failed, Full}
 use Rattle.console.specs.declared.input.Arrived.{Arrived}
 use Rattle.console.specs.Input.{Stream, so_far, reading_of, ArrivedIn, StreamPost, FrontOnly, up_to, decimal_from, below64, cons_to, byte_then, pairs_of, PairsPost, onto}
-
--- One of two numbers is the smaller.
-pub side : (a b : ℕ) → (a < b) ⊎ (b ≤ a)
-side a b = go (ltb a b) refl
-  where
-    go : (t : Bool) → ltb a b ≡ t → (a < b) ⊎ (b ≤ a)
-    go true e = inl (ltb-true a b e)
-    go false e = inr (ltb-false a b e)
 
 -- ---- a position
 

@@ -8,7 +8,7 @@ use borrow.Author.Tests.{lt-ltb, le-ltb}
 use Rattle.std.specs.Prelude.{Option, Some}
 use Rattle.console.specs.Input.{digit_of, byte_then, hex_of, pairs_of}
 use Rattle.console.specs.Output.{hex_digit_ascii, hex_text}
-use Rattle.console.proofs.InputLaws.{side}
+use Rattle.std.proofs.lemmas.Bool.{cases_lt as side}
 
 digit_figure : (b d : ℕ) → b ≡ 48 + d → d < 10 → digit_of b ≡ Some d
 unfolding digit_of

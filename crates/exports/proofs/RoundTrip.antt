@@ -10,7 +10,7 @@ use lib.ListN.{length, length-append}
 use borrow.Author.Tests.{lt-ltb, le-ltb, le-leb, ne_eqb}
 use Rattle.console.specs.Input.{digit_of}
 use Rattle.console.specs.Output.{hex_digit_ascii, hex_text}
-use Rattle.console.proofs.InputLaws.{side}
+use Rattle.std.proofs.lemmas.Bool.{cases_lt as side}
 use Rattle.console.proofs.RoundTrip.{AllBytes, digit_glyph, pairs_there_and_back}
 use Rattle.batch.specs.Packing.{packed, record_bytes, records_at, index_of, word_bytes}
 use Rattle.batch.proofs.PackingLaws.{record_length, word_length}

@@ -5,22 +5,15 @@ use borrow.Author.Tests.{not-false}
 use Rattle.wire.proofs.BoolLaws.{both, both_true, absorbed, whichever}
 use Rattle.wire.specs.Reading.{Read, got, refused, and_then}
 use Rattle.wire.specs.Varints.{varint_of, varint_bytes}
-use Rattle.wire.proofs.VarintLaws.{side, Begun, begun_none, begun_long, begun_end, begun_last, begun_more, len_pos, there_and_back, short_varint}
-use denote.Enum.Declared as E
-use Rattle.lists.specs.contracts.decoding.DecodeError.{the_type}
+use Rattle.wire.proofs.VarintLaws.{Begun, begun_none, begun_long, begun_end, begun_last, begun_more, len_pos, there_and_back, short_varint}
+use Rattle.std.proofs.lemmas.Bool.{cases_lt as side}
 use Rattle.lists.specs.declared.decoding.DecodeError.{DecodeError}
-use Rattle.lists.specs.declared.decoding.DecodeError.TheVariants.{TruncatedGap, GapTooLong, InvalidValue}
+use Rattle.lists.specs.declared.decoding.DecodeError.TheVariants.{GapTooLong, InvalidValue}
 use Rattle.lists.specs.Values.{mark, marked, marked_end, least_marked_rank, marked_rank_fits, valid, Pair}
 use Rattle.lists.specs.Sorting.{not_before, ascends}
 use Rattle.lists.specs.Lists.{gap_answer, gap_of, BytePost, GapPost, decode_refusal, refused_here, before, sums_of, step_of, NextValuePost, all_valid, no_plain, later_plain, ends_valid, decode_of, Decodes, encode_from, encode_list, written_from, written}
 use Rattle.lists.proofs.UnfitRank.{unfit_rank}
 use Rattle.lists.proofs.ValueLaws.{decided, mark_64, mark_index, plain_end_mark, least_le, above_mark, small_valid, valid_plain, valid_index, valid_fits, marked_near, marked_fitting, valid_lt}
-
--- The number of an error, as `e as u8` has it.
-pub error_number : (e : DecodeError) → E.tag_of the_type e + 18 ≡ decode_refusal e
-error_number TruncatedGap = refl
-error_number GapTooLong = refl
-error_number InvalidValue = refl
 
 -- What `?` hands on.
 pub handed_on : {T E : Type 0} (P : Result T E → Type 0) (r : Result T E) (e : E) → IsErrAnd r (λ (x : E). x ≡ e) → P (Err e) → P r

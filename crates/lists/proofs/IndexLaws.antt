@@ -3,7 +3,7 @@ use Rattle.std.proofs.Common.{◌≡◌, ℕ, zero, suc, ◌+◌, ◌-◌, ◌*�
 use mathlib.Core.List.{Permᴰ}
 use lib.Seq.{slice, slice-cons}
 use borrow.Author.Tests.{eqb-false, lt-leb}
-use Rattle.wire.proofs.VarintLaws.{side}
+use Rattle.std.proofs.lemmas.Bool.{cases_lt as side}
 use Rattle.lists.specs.declared.values.Sparse.{Sparse}
 use Rattle.lists.specs.Values.{mark, marked, valid, sparse_index}
 use Rattle.lists.specs.Sorting.{ascends, sort_of}

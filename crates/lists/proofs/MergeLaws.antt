@@ -6,7 +6,8 @@ use native.Mathlib.Nat.{div-div-eq-div-mul}
 use borrow.Author.Tests.{eqb-false}
 use Rattle.wire.proofs.BoolLaws.{both, both_true}
 use Rattle.wire.specs.Varints.{varint_bytes}
-use Rattle.wire.proofs.VarintLaws.{side, len_last, len_more, len_pos, len_le}
+use Rattle.wire.proofs.VarintLaws.{len_last, len_more, len_pos, len_le}
+use Rattle.std.proofs.lemmas.Bool.{cases_lt as side}
 use Rattle.lists.proofs.ValueLaws.{decided, plain_end_mark, below_mark, marked_ge, valid_plain}
 use Rattle.lists.specs.Values.{mark_bit, mark, marked, valid}
 use Rattle.lists.specs.Sorting.{ascends, insert, sort_of}

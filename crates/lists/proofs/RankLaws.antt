@@ -5,7 +5,7 @@ use mathlib.Core.List.{Memᴰ, Permᴰ}
 use native.Mathlib.Nat.{max_comm, max-le, max-zero, zero-max, le-max_left, le-max_right, max-eq_left, max-eq_right}
 use lib.ListN.{length-replicate, get_or-replicate, get_or-eq_default}
 use borrow.Author.Tests.{eqb-false}
-use Rattle.wire.proofs.VarintLaws.{side}
+use Rattle.std.proofs.lemmas.Bool.{cases_lt as side}
 use Rattle.lists.proofs.ValueLaws.{decided, register_marked, rank_marked, lowered_register_lem, register_zero, lowered_none, lowered_register_none, lowered_register_twice, lowered_register_mono, lowered_register_le, lowered_le, register_lt, rank_le, valid_ranked}
 use Rattle.lists.proofs.MergeLaws.{mark_groups, marked_group, slot_plain, slot_marked, merged_from, merged_has, valid_mem}
 use Rattle.lists.specs.Lists.{slot, merged, all_valid}

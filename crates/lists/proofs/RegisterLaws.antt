@@ -7,7 +7,7 @@ use lib.ListN.{get_or-append}
 use lib.Seq.{set_at, set-append_left}
 use lib.Pow.{shl-shr, shr-shr, shr_le, split, high, low}
 use lib.Count.{count_leading_zeros, leading_of_zero, leading_length, leading_unique}
-use Rattle.wire.proofs.VarintLaws.{side}
+use Rattle.std.proofs.lemmas.Bool.{cases_lt as side}
 use Rattle.lists.proofs.ValueLaws.{register_plain, register_lt, rank_plain, lowered_twice, wider, lowered_zero, lowered_bits, lowered_bits_le, lowered_register_lem, lowered_register_le, register_zero}
 use Rattle.lists.proofs.RankLaws.{max_assoc, larger_length, larger_at, largest_upper, lowered_length, lowered_at_lem, lowered_upper, lowered_least, lowered_agree, raised_with, lower_index, lower_rank, lower_none}
 use Rattle.lists.specs.declared.values.Sparse.{Sparse}

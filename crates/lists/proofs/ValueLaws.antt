@@ -9,7 +9,7 @@ use lib.Bits.{bit_and, and_high, and_mask}
 use lib.Count.{count_leading_zeros, leading_le, leading_top, leading_length, leading_unique}
 use borrow.Author.Tests.{eqb-false, lt-leb}
 use Rattle.wire.proofs.BoolLaws.{both_true, whichever}
-use Rattle.wire.proofs.VarintLaws.{side}
+use Rattle.std.proofs.lemmas.Bool.{cases_lt as side}
 use mir.Val.{bool_byte}
 use Rattle.lists.specs.Values.{mark_bit, mark, marked, plain_end, marked_end, least_marked_rank, marked_rank_fits, valid, sparse_index, register, plain_rank, rank, largest_rank, lowered_rank, lowered_register, Pair, IndexPost, RankPost}
 

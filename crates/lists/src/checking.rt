@@ -9,7 +9,7 @@ ghost use Rattle.lists.specs.Lists.{all_valid};
 use crate::merging;
 use crate::values::Sparse;
 
-// Whether no value is less than the one before it. `is_sorted` takes one value a turn.
+// Whether no value is less than the one before it.
 pub fn is_ascending(l: &[u32]) -> bool
     ensures { result ≡ ascends l.now }
 {
@@ -21,7 +21,7 @@ pub fn is_ascending(l: &[u32]) -> bool
 }
 
 impl Sparse {
-    // Whether every value is valid. `all` takes one value a turn.
+    // Whether every value is valid.
     pub fn all_valid(self, l: &[u32]) -> bool
         ensures { result ≡ all_valid self.normal_precision self.sparse_precision l.now }
     {

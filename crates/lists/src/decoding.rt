@@ -112,7 +112,7 @@ impl Sparse {
         let mut k: usize = 0;
         let mut last: u32 = 0;
         let mut plain = self.no_plain();
-        // A gap has a byte or more, so no iterator goes along.
+        // A gap has a byte or more, so no iterator goes along; `k` is the answer, too.
         while at < bytes.len() {
             let (v, next) = self.next_value(bytes, at, last)?;
             out[k] = v;

@@ -87,7 +87,8 @@ impl Sparse {
         }
     }
 
-    // The index of a value among 2^s.
+    // The index of a value among 2^s. (This and the next two ask that the value is valid: a newtype with a ghost field would be made of each value in the loops that
+    // call them, and opened here.)
     #[tactic(auto, using(crate::proofs::ValueLaws::sparse_plain, crate::proofs::ValueLaws::code_ge, crate::proofs::ValueLaws::code_sparse))]
     pub fn decode_sparse_index(self, v: u32) -> u32
         requires { valid self.normal_precision self.sparse_precision v ≡ true }

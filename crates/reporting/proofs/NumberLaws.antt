@@ -12,7 +12,7 @@ use Rattle.std.specs.Fmt.{signed_decimal}
 use Rattle.std.specs.Prelude.{decimal}
 use Rattle.std.proofs.lemmas.Fmt.{length-decimal-le}
 use Rattle.wire.proofs.EncodingLaws.{Two}
-use Rattle.console.proofs.InputLaws.{side}
+use Rattle.std.proofs.lemmas.Bool.{cases_lt as side}
 use Rattle.reporting.specs.Numbers.{signed_text, number_text}
 
 module _ (v : ℕ) where

@@ -2,7 +2,7 @@
 use Rattle.std.proofs.Common.{◌≡◌, ℕ, ◌+◌, ◌-◌, ◌*◌, ◌%◌, ◌^◌, ◌<◌, ◌≤◌, Bool, true, not, ◌&&◌, ◌||◌, eqb, ltb, leb, List, length, sym, refl, ap, ◌∙◌, ap₂, ⊎_elim, pos_of_ne-zero, arith, length-take-le, pow_mono, ltb-true, lt-ltb, eq-eqb, ne_eqb, eqb-true, le-leb, leb-true}
 use borrow.Author.Tests.{eqb-false, not-true}
 use Rattle.wire.proofs.BoolLaws.{both, both_true}
-use Rattle.wire.proofs.VarintLaws.{side}
+use Rattle.std.proofs.lemmas.Bool.{cases_lt as side}
 use Rattle.lists.proofs.DecodingLaws.{accepted, decode_encode}
 use Rattle.lists.proofs.MergeLaws.{length_encode}
 use Rattle.lists.proofs.RegisterLaws.{count_is}

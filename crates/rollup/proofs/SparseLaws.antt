@@ -4,7 +4,7 @@ use mathlib.Core.List.Permᴰ
 use mathlib.Core.List.{Permᴰ}
 use native.Mathlib.Nat.{min-le_left}
 use lib.ListN.{length-replicate}
-use Rattle.wire.proofs.VarintLaws.{side}
+use Rattle.std.proofs.lemmas.Bool.{cases_lt as side}
 use Rattle.lists.specs.declared.values.Sparse.{Sparse as Encoding}
 use Rattle.lists.specs.declared.merging.Merged.{Merged}
 use Rattle.lists.specs.Pairs.{NewPost}

@@ -1,8 +1,9 @@
 -- Header rules: document 01, module 5, and the questions that are asked of a state by itself, 2 to 14.
 use Rattle.std.specs.Prelude.{ℕ, ◌^◌, Bool, true, false, cond, not, ◌&&◌, ◌||◌, List, [], length, ◌==◌, nat_le}
 use Rattle.wire.specs.Reading.{Read, got, refused, and_then}
-use Rattle.wire.specs.State.{State, state_of, bytes_or_none, read_state}
-use Rattle.wire.specs.declared.view.StateView.{StateView}
+use Rattle.wire.specs.State.{State, bytes_or_none, read_state}
+-- The state that a view of it shows: the header is judged of one.
+pub use Rattle.wire.specs.View.{viewed}
 use Rattle.lists.specs.Values.{largest_rank}
 use Rattle.lists.specs.Registers.{largest}
 use Rattle.rollup.specs.Accumulator.{normal_range, sparse_range}
@@ -11,10 +12,6 @@ use Rattle.rollup.specs.Accumulator.{normal_range, sparse_range}
 abbrev pub ask : Bool → ℕ → ℕ → ℕ
 ask true n next = next
 ask false n next = n
-
--- The state that a view of it shows.
-abbrev pub viewed : StateView → State
-viewed v = state_of v.bytes.now v.fields
 
 -- The bytes of the two data fields; "data, if not empty": present and not empty.
 abbrev pub data_of : State → List ℕ

@@ -20,7 +20,6 @@ use lists::merging::Merged;
 use lists::registers::register_bytes;
 use lists::values::Sparse;
 use lists::{merging, sorting};
-use wire::fields::Part;
 use wire::state::{Fields, HllFields};
 use wire::view::StateView;
 
@@ -29,15 +28,11 @@ impl Accumulator {
     fn fields(self, sparse_size: u32) -> Fields
         ensures { result ≡ head_fields self sparse_size }
     {
-        let absent = Part { start: 0, len: 0 };
         let hll = HllFields {
             sparse_size,
             precision: self.precision,
             sparse_precision: self.sparse_precision,
-            data_present: false,
-            sparse_data_present: false,
-            data: absent,
-            sparse_data: absent,
+            ..HllFields::default()
         };
         Fields {
             aggregator_type: HYPERLOGLOG_PLUS_UNIQUE,

@@ -16,7 +16,7 @@ use Rattle.wire.specs.Fields.{tag, VARINT, I64, LEN, I32, is_tag, tag_of, bytes_
 use Rattle.wire.specs.State.{State, empty_hll, empty_state, is_number, with_number, number_of, nested_of, other_of, outer_field, read_state}
 use Rattle.wire.specs.Layout.{past_field, when_read, is_nested, at_end, nested_last_in, nested_last, CutReading, cut_refused, cut_before_hll}
 use Rattle.wire.proofs.BoolLaws.{never, either, whichever}
-use Rattle.wire.proofs.VarintLaws.{side}
+use Rattle.std.proofs.lemmas.Bool.{cases_lt as side}
 use Rattle.wire.proofs.ReadingLaws.{then_same, bytes_cut, bytes_got, skip_number, skip_bytes}
 use Rattle.wire.proofs.FieldLaws.{bytes_back, Reads, reads_message, reads_none, reads_field, reads_refused}
 

@@ -2,8 +2,7 @@
 use Prim.Native.Nat.{ℕ, zero, suc, ◌+◌, ◌*◌, ◌-◌, ◌/◌, ◌%◌, ◌^◌, ◌<◌, ◌≤◌}
 use mathlib.Core.Path.{◌≡◌, refl, sym, ap, ap₂, ◌∙◌, subst}
 use mathlib.Core.List.{List, [], ◌∷◌, ◌++◌}
-use mathlib.Core.Bool.{Bool, true, false}
-use mathlib.Core.Logic.{◌⊎◌, inl, inr, ⊎_elim}
+use mathlib.Core.Logic.{⊎_elim}
 use native.Mathlib.Nat.{add_comm, mul-add, mul_comm, mul_assoc, mul-mod_left, add-zero, mod-add-mod, div-lt_iff_lt-mul, mod-le, mod-lt, lt_of_le_of_lt, zero-lt-suc}
 use native.Mathlib.Numerals.{add-one}
 use native.Mathlib.Omega.{arith}
@@ -12,20 +11,12 @@ use lib.Seq.{drop-cons, sets}
 use lib.Pow.{mod-pow-add, high, low, shl-shr, pow-add}
 use lib.Bits.{bit_or, bit_and, or_shifted_r, and_mask}
 use lib.Arith.{digits_lt}
-use lib.Dec.{ltb}
-use borrow.Author.Tests.{lt-ltb, le-ltb, ltb-true, ltb-false}
+use borrow.Author.Tests.{lt-ltb, le-ltb}
 use Rattle.std.specs.Prelude.{Ok, Err}
+use Rattle.std.proofs.lemmas.Bool.{cases_lt as side}
 use Rattle.wire.specs.declared.read_error.ReadError.TheVariants.{Truncated, VarintTooLong}
 use Rattle.wire.specs.Reading.{Read, got, refused}
 use Rattle.wire.specs.Varints.{payload, varint_of, low_bits, varint64, varint_bytes, VarintPost}
-
--- One of two numbers is the smaller.
-pub side : (a b : ℕ) → (a < b) ⊎ (b ≤ a)
-side a b = go (ltb a b) refl
-  where
-    go : (t : Bool) → ltb a b ≡ t → (a < b) ⊎ (b ≤ a)
-    go true e = inl (ltb-true a b e)
-    go false e = inr (ltb-false a b e)
 
 -- ---- reading
 
@@ -133,9 +124,6 @@ unfolding varint64
 low_is l r e = ap (λ (x : Read ℕ). low_bits 64 x) (sym e)
 
 module _ {s : List ℕ} {start at w x : ℕ} (n : ℕ) (g : Begun 10 s start at (suc n) w x) where
-  cut_post : length s ≤ at → VarintPost s start (Err Truncated)
-  cut_post h = record { answer = low_is (drop start s) (refused 3) (begun_end n g h); inside = tt }
-
   last_post : {b v : ℕ} → at < length s → b ≡ get_or s at 0 → b < 128 → v ≡ (x + b * w) % 2 ^ 64 → VarintPost s start (Ok (v, record { at = at + 1 }))
   last_post {b} inside e l f =
       record {
@@ -164,7 +152,7 @@ module _ {s : List ℕ} {start at n acc : ℕ} (r : Reading s start at n acc) wh
 
   module _ (fewer : n < 10) where
     pub reading_cut : length s ≤ at → VarintPost s start (Err Truncated)
-    reading_cut h = cut_post (9 - n) (left (suc (9 - n)) (omega arith)) h
+    reading_cut h = record { answer = low_is (drop start s) (refused 3) (begun_end (9 - n) (left (suc (9 - n)) (omega arith)) h); inside = tt }
 
     module _ {b : ℕ} (inside : at < length s) (e : b ≡ get_or s at 0) where
       put_is : put n acc b ≡ (r.exact + b % 128 * 2 ^ (7 * n)) % 2 ^ 64
@@ -175,14 +163,16 @@ module _ {s : List ℕ} {start at n acc : ℕ} (r : Reading s start at n acc) wh
           last_post (9 - n) (left (suc (9 - n)) (omega arith)) inside e l
           (put_is ∙ ap (λ (x : ℕ). (r.exact + x * 2 ^ (7 * n)) % 2 ^ 64) (let f : b % 128 ≡ b = omega arith in f))
 
-      pub reading_more : 128 ≤ b → Reading s start (at + 1) (n + 1) (put n acc b)
-      reading_more l =
+      -- The next byte is the one after `at`.
+      pub reading_more : {next : ℕ} → next ≡ at + 1 → 128 ≤ b → Reading s start next (n + 1) (put n acc b)
+      reading_more f l =
           record {
             few = omega arith;
             exact = r.exact + b % 128 * 2 ^ (7 * n);
             begun =
-                subst (λ (w : ℕ). Begun 10 s start (at + 1) (10 - (n + 1)) w (r.exact + b % 128 * 2 ^ (7 * n))) (sym (weight_more n))
-                (begun_more (10 - (n + 1)) (left (suc (10 - (n + 1))) (omega arith)) inside e l refl);
+                subst (λ (k : ℕ). Begun 10 s start k (10 - (n + 1)) (2 ^ (7 * (n + 1))) (r.exact + b % 128 * 2 ^ (7 * n))) (sym f)
+                (subst (λ (w : ℕ). Begun 10 s start (at + 1) (10 - (n + 1)) w (r.exact + b % 128 * 2 ^ (7 * n))) (sym (weight_more n))
+                (begun_more (10 - (n + 1)) (left (suc (10 - (n + 1))) (omega arith)) inside e l refl));
             low = put_is;
           }
 

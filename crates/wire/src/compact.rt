@@ -7,8 +7,8 @@ ghost use Rattle.wire.specs.Compact.{SmallPost, CompactHllStepPost, CompactHllPo
 
 use crate::fields::take;
 use crate::state::{
-    DATA_TAG, Fields, HllFields, NUM_VALUES_TAG, PRECISION_TAG, SPARSE_DATA_TAG,
-    SPARSE_PRECISION_TAG, SPARSE_SIZE_TAG, TYPE_TAG, VALUE_TYPE_TAG, VERSION_TAG, empty,
+    DATA_TAG, ENCODING_VERSION_TAG, Fields, HllFields, NUM_VALUES_TAG, PRECISION_TAG,
+    SPARSE_DATA_TAG, SPARSE_PRECISION_TAG, SPARSE_SIZE_TAG, TYPE_TAG, VALUE_TYPE_TAG, empty,
 };
 use crate::varint::Cursor;
 
@@ -96,7 +96,7 @@ fn compact_field(s: &[u8], c: Cursor, mut f: Fields) -> Option<(Fields, Cursor)>
     match tag {
         TYPE_TAG => f.aggregator_type = v,
         NUM_VALUES_TAG => f.num_values = u64::from(v),
-        VERSION_TAG => f.encoding_version = v,
+        ENCODING_VERSION_TAG => f.encoding_version = v,
         VALUE_TYPE_TAG => f.value_type = v,
         _ => return None,
     }

@@ -1,16 +1,18 @@
 // Writing a state. Ported from `StateView::encode` in src/proto.rs of zetasketch-rs at commit 9abe68bf87 (Apache-2.0, see NOTICE).
 // Changed: the output is lent, and the lengths are taken first, so that nothing is written where it is too short. (A length and what
 // puts it are two functions: one over a sink that counts or writes wants a trait, its ghost members, the laws that join two parts and two
-// impls, which is more than the six functions that it spares.)
+// impls, which is more than the five functions that it spares.)
 ghost use Rattle.std.specs.Prelude.{◌≡◌, [], ◌+◌, ◌≤◌, ◌<◌, ◌^◌, ◌/◌, ◌%◌, length};
 ghost use Rattle.wire.specs.Varints.{PutPost};
 ghost use Rattle.wire.specs.State.{lent_field, hll_of, state_of, bytes_or_none};
 ghost use Rattle.wire.specs.Fields.{VARINT, LEN};
 ghost use Rattle.wire.specs.Encoding.{pair, sign_extended, int32_unless, bytes_field, hll_numbers, hll_bytes, outer_numbers, encode_of, hll_head, hll_start, start_of, head_of, EncodePost};
+ghost use Rattle.wire.specs.View.{viewed};
 
 use crate::state::{
-    DATA_TAG, Fields, HLL_STATE_TAG, HllFields, NO_VERSION, NUM_VALUES_TAG, PRECISION_TAG,
-    SPARSE_DATA_TAG, SPARSE_PRECISION_TAG, SPARSE_SIZE_TAG, TYPE_TAG, VALUE_TYPE_TAG, VERSION_TAG,
+    DATA_TAG, ENCODING_VERSION_TAG, Fields, HLL_STATE_TAG, HllFields, NO_VERSION, NUM_VALUES_TAG,
+    PRECISION_TAG, SPARSE_DATA_TAG, SPARSE_PRECISION_TAG, SPARSE_SIZE_TAG, TYPE_TAG,
+    VALUE_TYPE_TAG,
 };
 use crate::varint::{put_varint, varint_len_64};
 use crate::view::StateView;
@@ -58,7 +60,8 @@ fn field_len(tag: u32, d: Option<&[u8]>) -> usize
     pair_len(tag, d.len() as u64) + d.len()
 }
 
-// ---- writing: each puts its bytes at `at`, where there is room for them, and answers the position past them
+// ---- writing: each puts its bytes at `at`, where there is room for them, and answers the position past them. (The whole output and a place in it: the contract
+// says what stands at that place of the whole.)
 
 fn put_pair(out: &mut [u8], at: usize, tag: u32, v: u64) -> usize
     requires { at + length (pair tag v) ≤ length out.old }
@@ -107,7 +110,7 @@ impl Fields {
     {
         pair_len(TYPE_TAG, sign_extended(self.aggregator_type))
             + pair_len(NUM_VALUES_TAG, self.num_values)
-            + int32_len(NO_VERSION, VERSION_TAG, self.encoding_version)
+            + int32_len(NO_VERSION, ENCODING_VERSION_TAG, self.encoding_version)
             + int32_len(0, VALUE_TYPE_TAG, self.value_type)
     }
 
@@ -117,7 +120,13 @@ impl Fields {
     {
         let second = put_pair(out, at, TYPE_TAG, sign_extended(self.aggregator_type));
         let third = put_pair(out, second, NUM_VALUES_TAG, self.num_values);
-        let fourth = put_int32(out, third, NO_VERSION, VERSION_TAG, self.encoding_version);
+        let fourth = put_int32(
+            out,
+            third,
+            NO_VERSION,
+            ENCODING_VERSION_TAG,
+            self.encoding_version,
+        );
         put_int32(out, fourth, 0, VALUE_TYPE_TAG, self.value_type)
     }
 }
@@ -144,22 +153,22 @@ impl HllFields {
 impl<'a> StateView<'a> {
     // The nested message up to its sparse data.
     fn hll_start_len(self) -> usize
-        ensures { result ≡ length (hll_start (state_of self.entry.bytes.now self.entry.fields).hll) }
+        ensures { result ≡ length (hll_start (viewed self.entry).hll) }
     {
         self.fields.hll.numbers_len() + field_len(DATA_TAG, self.data_field())
     }
 
     fn hll_len(self) -> usize
-        requires { length (bytes_or_none (state_of self.bytes.now self.fields).hll.«data») + length (bytes_or_none (state_of self.bytes.now self.fields).hll.sparse_data) < 2 ^ 63 }
-        ensures { result ≡ length (hll_bytes (state_of self.entry.bytes.now self.entry.fields).hll) }
+        requires { length (bytes_or_none (viewed self).hll.«data») + length (bytes_or_none (viewed self).hll.sparse_data) < 2 ^ 63 }
+        ensures { result ≡ length (hll_bytes (viewed self.entry).hll) }
     {
         self.hll_start_len() + field_len(SPARSE_DATA_TAG, self.sparse_data_field())
     }
 
     // The nested message with as many bytes of sparse data as the fields say, wherever they are.
     fn nested_len(self) -> usize
-        requires { length (hll_head (state_of self.bytes.now self.fields).hll self.fields.hll.sparse_data.len) + self.fields.hll.sparse_data.len < 2 ^ 64 }
-        ensures { result ≡ length (hll_head (state_of self.entry.bytes.now self.entry.fields).hll self.entry.fields.hll.sparse_data.len) + self.entry.fields.hll.sparse_data.len }
+        requires { length (hll_head (viewed self).hll self.fields.hll.sparse_data.len) + self.fields.hll.sparse_data.len < 2 ^ 64 }
+        ensures { result ≡ length (hll_head (viewed self.entry).hll self.entry.fields.hll.sparse_data.len) + self.entry.fields.hll.sparse_data.len }
     {
         let n = self.fields.hll.sparse_data.len;
         self.hll_start_len() + pair_len(SPARSE_DATA_TAG, n as u64) + n
@@ -167,8 +176,8 @@ impl<'a> StateView<'a> {
 
     // How many bytes `encode_head` writes.
     pub fn head_len(self) -> usize
-        requires { length (bytes_or_none (state_of self.bytes.now self.fields).hll.«data») + self.fields.hll.sparse_data.len < 2 ^ 63 }
-        ensures { result ≡ length (head_of (state_of self.entry.bytes.now self.entry.fields) self.entry.fields.hll.sparse_data.len) }
+        requires { length (bytes_or_none (viewed self).hll.«data») + self.fields.hll.sparse_data.len < 2 ^ 63 }
+        ensures { result ≡ length (head_of (viewed self.entry) self.entry.fields.hll.sparse_data.len) }
     {
         let nested = self.nested_len();
         let outer = self.fields.numbers_len() + pair_len(HLL_STATE_TAG, nested as u64);
@@ -177,8 +186,8 @@ impl<'a> StateView<'a> {
 
     // How many bytes `encode` writes.
     pub fn encoded_len(self) -> usize
-        requires { length (bytes_or_none (state_of self.bytes.now self.fields).hll.«data») + length (bytes_or_none (state_of self.bytes.now self.fields).hll.sparse_data) < 2 ^ 63 }
-        ensures { result ≡ length (encode_of (state_of self.entry.bytes.now self.entry.fields)) }
+        requires { length (bytes_or_none (viewed self).hll.«data») + length (bytes_or_none (viewed self).hll.sparse_data) < 2 ^ 63 }
+        ensures { result ≡ length (encode_of (viewed self.entry)) }
     {
         let nested = self.hll_len();
         self.fields.numbers_len() + pair_len(HLL_STATE_TAG, nested as u64) + nested
@@ -186,8 +195,8 @@ impl<'a> StateView<'a> {
 
     // A state up to its sparse data, where the nested message has `n` bytes.
     fn put_start(self, n: usize, out: &mut [u8]) -> usize
-        requires { length (start_of (state_of self.bytes.now self.fields) n) ≤ length out.old }
-        ensures { PutPost out.old 0 (start_of (state_of self.entry.bytes.now self.entry.fields) n) result out.new }
+        requires { length (start_of (viewed self) n) ≤ length out.old }
+        ensures { PutPost out.old 0 (start_of (viewed self.entry) n) result out.new }
     {
         let prefix = self.fields.put_numbers(out, 0);
         let numbers = put_pair(out, prefix, HLL_STATE_TAG, n as u64);
@@ -198,8 +207,8 @@ impl<'a> StateView<'a> {
     // Everything before the bytes of the sparse data, of which there are as many as the fields say: the caller has the rest of `out` filled by
     // another writer.
     pub fn encode_head(self, out: &mut [u8]) -> usize
-        requires { length (head_of (state_of self.bytes.now self.fields) self.fields.hll.sparse_data.len) + self.fields.hll.sparse_data.len ≤ length out.old }
-        ensures { PutPost out.old 0 (head_of (state_of self.entry.bytes.now self.entry.fields) self.entry.fields.hll.sparse_data.len) result out.new }
+        requires { length (head_of (viewed self) self.fields.hll.sparse_data.len) + self.fields.hll.sparse_data.len ≤ length out.old }
+        ensures { PutPost out.old 0 (head_of (viewed self.entry) self.entry.fields.hll.sparse_data.len) result out.new }
     {
         let n = self.fields.hll.sparse_data.len;
         let at = self.put_start(self.nested_len(), out);
@@ -207,8 +216,8 @@ impl<'a> StateView<'a> {
     }
 
     fn put_state(self, out: &mut [u8]) -> usize
-        requires { length (encode_of (state_of self.bytes.now self.fields)) ≤ length out.old }
-        ensures { PutPost out.old 0 (encode_of (state_of self.entry.bytes.now self.entry.fields)) result out.new }
+        requires { length (encode_of (viewed self)) ≤ length out.old }
+        ensures { PutPost out.old 0 (encode_of (viewed self.entry)) result out.new }
     {
         let at = self.put_start(self.hll_len(), out);
         put_field(out, at, SPARSE_DATA_TAG, self.sparse_data_field())
@@ -216,7 +225,7 @@ impl<'a> StateView<'a> {
 
     // The two data fields are compared with the room first, one after the other, so that no sum can overflow.
     pub fn encode(self, out: &mut [u8]) -> Result<usize, EncodeError>
-        ensures { EncodePost (state_of self.entry.bytes.now self.entry.fields) out.old result out.new }
+        ensures { EncodePost (viewed self.entry) out.old result out.new }
     {
         let dense = self.data().len();
         let sparse = self.sparse_data().len();

@@ -7,7 +7,7 @@ ghost use Rattle.wire.specs.Fields.{TagPost, TakePost, DelimitedPost, SkipPost};
 use crate::read_error::ReadError;
 use crate::varint::{Cursor, read_varint};
 
-// Wire types.
+// Wire types. (Numbers and no enum: they are patterns over `tag % 8`, in the one match that there is of them.)
 const VARINT: u32 = 0;
 
 const I64: u32 = 1;
@@ -17,7 +17,7 @@ const LEN: u32 = 2;
 const I32: u32 = 5;
 
 // Where the bytes of a field stand.
-#[derive(Clone, Copy)]
+#[derive(Clone, Copy, Default)]
 pub struct Part {
     pub start: usize,
     pub len: usize,

@@ -49,13 +49,12 @@ pub(crate) fn parse_small_list(s: &[u8]) -> Option<Fields>
         sparse_size: u32::from(sparse_size),
         precision: u32::from(precision),
         sparse_precision: u32::from(sparse_precision),
-        data_present: false,
         sparse_data_present: true,
-        data: Part { start: 0, len: 0 },
         sparse_data: Part {
             start: s.len() - list.len(),
             len: list.len(),
         },
+        ..HllFields::default()
     };
     Some(Fields {
         aggregator_type: 112,

@@ -13,7 +13,7 @@ use crate::small_list::parse_small_list;
 use crate::varint::{Cursor, read_varint, read_varint32};
 
 // The fields of the nested message. A signed number is carried as the unsigned one of the same bits.
-#[derive(Clone, Copy)]
+#[derive(Clone, Copy, Default)]
 pub struct HllFields {
     pub sparse_size: u32,
     // p, the normal precision.
@@ -48,7 +48,7 @@ pub(crate) const TYPE_TAG: u32 = 8;
 
 pub(crate) const NUM_VALUES_TAG: u32 = 16;
 
-pub(crate) const VERSION_TAG: u32 = 24;
+pub(crate) const ENCODING_VERSION_TAG: u32 = 24;
 
 pub(crate) const VALUE_TYPE_TAG: u32 = 32;
 
@@ -69,22 +69,12 @@ pub(crate) const SPARSE_DATA_TAG: u32 = 50;
 pub(crate) fn empty() -> Fields
     ensures { (s : List ℕ) → (state_of s result ≡ empty_state) × HllInside s result.hll }
 {
-    let absent = Part { start: 0, len: 0 };
-    let hll = HllFields {
-        sparse_size: 0,
-        precision: 0,
-        sparse_precision: 0,
-        data_present: false,
-        sparse_data_present: false,
-        data: absent,
-        sparse_data: absent,
-    };
     Fields {
         aggregator_type: NO_TYPE,
         num_values: 0,
         encoding_version: NO_VERSION,
         value_type: 0,
-        hll,
+        hll: HllFields::default(),
     }
 }
 
@@ -101,7 +91,8 @@ impl Part {
     }
 }
 
-// One field of the nested message.
+// One field of the nested message. (`m` and `base` stay two, here, in `parse_hll` and in compact.rt: a struct of both would be taken apart in each of the four
+// functions.)
 fn hll_field(
     m: &[u8],
     base: usize,
@@ -158,7 +149,7 @@ fn outer_field(s: &[u8], c: Cursor, mut f: Fields) -> Result<(Fields, Cursor), R
     match tag {
         TYPE_TAG => (f.aggregator_type, next) = read_varint32(s, value)?,
         NUM_VALUES_TAG => (f.num_values, next) = read_varint(s, value)?,
-        VERSION_TAG => (f.encoding_version, next) = read_varint32(s, value)?,
+        ENCODING_VERSION_TAG => (f.encoding_version, next) = read_varint32(s, value)?,
         VALUE_TYPE_TAG => (f.value_type, next) = read_varint32(s, value)?,
         HLL_STATE_TAG => {
             let (part, end) = length_delimited(s, value)?;

@@ -1,5 +1,6 @@
 // Varints. Ported from `Reader::varint64`, `Reader::varint32`, `put_varint` and `varint_len` in src/proto.rs of zetasketch-rs at commit
-// 9abe68bf87 (Apache-2.0, see NOTICE). Changed: a slice and a cursor by value in the place of `Reader`, a lent output.
+// 9abe68bf87 (Apache-2.0, see NOTICE). Changed: a slice and a cursor by value in the place of `Reader`, a lent output. (No struct holds the slice and
+// the cursor: the form of document 01 is "a cursor by value".)
 ghost use Rattle.std.specs.Prelude.{◌≡◌, ◌+◌, ◌≤◌, length};
 ghost use Rattle.wire.specs.Varints.{VarintPost, Varint32Post, PutPost, varint_bytes};
 
@@ -11,20 +12,20 @@ pub struct Cursor {
     pub at: usize,
 }
 
-// The varint at a cursor, of any length. A byte's low seven bits are payload, and one of 128 or more says that another byte follows. A shift keeps the low 64 bits, so the tenth byte gives one bit.
+// The varint at a cursor, of any length. A byte's low seven bits are payload, and one of 128 or more says that another byte follows. A shift keeps the low 64 bits,
+// so the tenth byte gives one bit.
 fn long_varint(s: &[u8], c: Cursor) -> Result<(u64, Cursor), ReadError>
     ensures { VarintPost s.now c.at result }
 {
-    let mut at = c.at;
     let mut value: u64 = 0;
-    for n in 0..10u32 {
+    for n in 0..10 {
+        let at = c.at + n;
         let Some(&b) = s.get(at) else {
             return Err(ReadError::Truncated);
         };
         value |= (u64::from(b) & 0x7f) << (7 * n);
-        at += 1;
         if b < 128 {
-            return Ok((value, Cursor { at }));
+            return Ok((value, Cursor { at: at + 1 }));
         }
     }
     Err(ReadError::VarintTooLong)

@@ -2,8 +2,8 @@
 // 9abe68bf87 (Apache-2.0, see NOTICE). Changed: where the Rust holds each data field as an optional slice, this holds the bytes once, and `fields`
 // says of each data field whether it is there, where it starts and how long it is.
 ghost use Rattle.std.specs.Prelude.{◌≡◌, IfOk};
-ghost use Rattle.wire.specs.State.{part_of, state_of, lent_field, bytes_or_none};
-ghost use Rattle.wire.specs.View.{ViewPost};
+ghost use Rattle.wire.specs.State.{part_of, lent_field, bytes_or_none};
+ghost use Rattle.wire.specs.View.{viewed, ViewPost};
 
 use crate::fields::Part;
 use crate::read_error::ReadError;
@@ -40,7 +40,7 @@ impl<'a> StateView<'a> {
 
     // Field 5.
     pub(crate) fn data_field(self) -> Option<&'a [u8]>
-        ensures { lent_field result ≡ (state_of self.entry.bytes.now self.entry.fields).hll.«data» }
+        ensures { lent_field result ≡ (viewed self.entry).hll.«data» }
     {
         part_bytes(
             self.bytes,
@@ -51,7 +51,7 @@ impl<'a> StateView<'a> {
 
     // Field 6.
     pub(crate) fn sparse_data_field(self) -> Option<&'a [u8]>
-        ensures { lent_field result ≡ (state_of self.entry.bytes.now self.entry.fields).hll.sparse_data }
+        ensures { lent_field result ≡ (viewed self.entry).hll.sparse_data }
     {
         part_bytes(
             self.bytes,
@@ -62,14 +62,14 @@ impl<'a> StateView<'a> {
 
     // The bytes of field 5, no bytes where it is absent.
     pub fn data(self) -> &'a [u8]
-        ensures { result.now ≡ bytes_or_none (state_of self.entry.bytes.now self.entry.fields).hll.«data» }
+        ensures { result.now ≡ bytes_or_none (viewed self.entry).hll.«data» }
     {
         self.data_field().unwrap_or(b"")
     }
 
     // The bytes of field 6, likewise.
     pub fn sparse_data(self) -> &'a [u8]
-        ensures { result.now ≡ bytes_or_none (state_of self.entry.bytes.now self.entry.fields).hll.sparse_data }
+        ensures { result.now ≡ bytes_or_none (viewed self.entry).hll.sparse_data }
     {
         self.sparse_data_field().unwrap_or(b"")
     }

@@ -4,7 +4,8 @@ use mathlib.Core.List.{List}
 use Prim.Native.Nat.{ℕ, ◌<◌}
 use native.Mathlib.Omega.{arith}
 use lib.ListN.{length}
-use Rattle.wire.specs.State.{State, state_of, bytes_or_none}
+use Rattle.wire.specs.View.{viewed}
+use Rattle.wire.specs.State.{State, bytes_or_none}
 use Rattle.wire.specs.Encoding.{encode_of}
 use Rattle.wire.proofs.view.StateView.encode.Goals.{then-out-dense-via-then-out-dense, then-out-dense-via-else-out-dense+then-out-dense-2, then-out-dense-via-else-out-dense+else-out-dense-2+then-out-encoded_len}
 use Rattle.wire.proofs.EncodingLaws.{encode_ge, encode_short, encode_written}
@@ -12,7 +13,7 @@ use Rattle.wire.proofs.view.StateView.encode.Goals as goal
 
 pub returns-then-out-dense : goal.returns-then-out-dense
 returns-then-out-dense c =
-    let state : State = state_of c.args.self.bytes.now c.args.self.fields in
+    let state : State = viewed c.args.self in
     let dense : length c.data-dense.result.now ≡ length (bytes_or_none state.hll.«data») = ap (λ (l : List ℕ). length l) c.data-dense.ensures in
     let sparse : length c.sparse_data-sparse.result.now ≡ length (bytes_or_none state.hll.sparse_data) = ap (λ (l : List ℕ). length l) c.sparse_data-sparse.ensures in
     let short : length c.args.out.now < length (encode_of state) = elim c.then-out-dense.branch [
@@ -24,5 +25,5 @@ returns-then-out-dense c =
 
 pub returns : goal.returns
 returns c =
-    let state : State = state_of c.args.self.bytes.now c.args.self.fields in
+    let state : State = viewed c.args.self in
     encode_written state c.args.out.now c.put_state.result _ (omega (arith, c.encoded_len.ensures, c.if-out-encoded_len.false)) c.put_state.ensures
