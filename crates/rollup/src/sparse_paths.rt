@@ -40,9 +40,10 @@ pub fn set_lists(registers: &mut [u8], enc: Sparse, kept: &[u32], waiting: &[u32
     registers::set_registers(registers, enc, 0, waiting);
 }
 
-// ---- merging
+// ---- merging. A list comes whole and with its count: what is put behind the counted values needs the room.
 
-// The first k values of `scratch` go behind the w that wait, and all these are put in order: where none waited, they are in order already. `scratch` is the spare of the sort.
+// The first k values of `scratch` go behind the w that wait, and all these are put in order: where none waited, they are in order already. `scratch` is the spare
+// of the sort.
 fn join_waiting(pending: &mut [u32], w: usize, scratch: &mut [u32], k: usize)
     requires { (w + k ≤ length pending.old) × (w + k ≤ length scratch.old) × (ascends (take k scratch.old) ≡ true) }
     ensures { take (w + k) pending.new ≡ sort_of (take w pending.old ++ take k scratch.old) }
