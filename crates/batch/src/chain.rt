@@ -13,7 +13,7 @@ pub enum ChainError {
 }
 
 impl ChainError {
-    // Document 01's number.
+    // Document 01's number. It has a method in the place of `as u8`, since a contract says which one it is: the report is told it.
     pub fn number(self) -> u8
         ensures { result ≡ error_number self }
     {

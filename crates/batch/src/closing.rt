@@ -23,16 +23,16 @@ pub struct Report {
 }
 
 // A list's values are read as registers in a piece of its own: a roll-up in list form leaves its register bytes untouched.
-fn list_not_zero(a: Accumulator, sparse: &[u32], pending: &[u32], spare: &mut [u8]) -> usize
-    requires { ListCountPre a sparse.now pending.now spare.old }
-    ensures { result ≡ not_zero_count (list_registers a.precision a.sparse_precision (take a.sparse_len sparse.now ++ take a.pending_len pending.now)) }
+fn list_not_zero(a: Accumulator, memory: &Memory, spare: &mut [u8]) -> usize
+    requires { ListCountPre a memory.now.sparse.now memory.now.pending.now spare.old }
+    ensures { result ≡ not_zero_count (list_registers a.precision a.sparse_precision (take a.sparse_len memory.now.sparse.now ++ take a.pending_len memory.now.pending.now)) }
 {
     let enc = a.encoding();
     sparse_paths::set_lists(
         spare,
         enc,
-        &sparse[..a.sparse_len],
-        &pending[..a.pending_len],
+        &memory.sparse[..a.sparse_len],
+        &memory.pending[..a.pending_len],
     );
     registers::count_not_zero(&spare[..], enc.normal_precision)
 }
@@ -45,7 +45,7 @@ fn not_zero(a: Accumulator, memory: &Memory, spare: &mut [u8]) -> Option<usize>
     match a.form {
         Form::Unstarted => Some(0),
         Form::Sparse if spare.len() < registers::register_bytes(a.precision) => None,
-        Form::Sparse => Some(list_not_zero(a, memory.sparse, memory.pending, spare)),
+        Form::Sparse => Some(list_not_zero(a, memory, spare)),
         Form::Dense => Some(registers::count_not_zero(memory.registers, a.precision)),
     }
 }
@@ -64,16 +64,11 @@ pub fn roll(
 {
     let rolled = records::roll_up(batch, memory, answers);
     let not_zero = not_zero(rolled.head, memory, spare);
-    // Each slice is lent by itself: fields behind a reference that are lent one after the other in a call are not covered.
-    let (registers, sparse, pending, scratch) = (
-        &mut *memory.registers,
-        &mut *memory.sparse,
-        &mut *memory.pending,
-        &mut *memory.scratch,
-    );
+    // Two slices are lent before the call: a field behind a reference that a call takes as `&` is not covered beside others.
+    let (registers, sparse) = (&mut *memory.registers, &mut *memory.sparse);
     let written = rolled
         .head
-        .write_fitting(registers, sparse, pending, scratch, out);
+        .write_fitting(registers, sparse, memory.pending, memory.scratch, out);
     Report {
         rolled,
         not_zero,

@@ -1,5 +1,5 @@
-// Appending records to a batch. A writer takes the whole buffer and a position, and answers the next position: `put_record` writes at two places, and the indices that it puts are
-// positions in the whole.
+// Appending records to a batch. A writer takes the whole buffer and a position, and answers the next position: `put_record` writes at two places, and the indices
+// that it puts are positions in the whole.
 ghost use Rattle.std.specs.Prelude.{◌≡◌, ◌+◌, ◌%◌, ◌≤◌, length};
 ghost use Rattle.wire.specs.Varints.{PutPost};
 ghost use Rattle.batch.specs.Packing.{word_bytes, record_bytes, RecordPre, RecordPost};

@@ -13,7 +13,7 @@ pub struct Walked {
     pub ending: Result<(), ChainError>,
 }
 
-// Puts the indices into their cells, and counts them.
+// Puts the indices into their cells, and counts them. The count is told after an error, too, when that of an `enumerate` is gone.
 fn put_indices(batch: &[u8], indices: &mut [u32], records: &mut usize) -> Result<(), ChainError>
     requires { (records.old ≡ 0) × (65536 ≤ length indices.old) }
     ensures { WalkedPost batch.now indices.old (record { records = records.new; ending = result }) indices.new }
@@ -25,7 +25,7 @@ fn put_indices(batch: &[u8], indices: &mut [u32], records: &mut usize) -> Result
     Ok(())
 }
 
-// Puts the index of each record into its cell, in the order of the chain. A batch has fewer records than bytes.
+// Puts the index of each record into its cell, in the order of the chain. A batch has fewer records than bytes. The cells are lent: there is no heap.
 pub fn walk(batch: &[u8], indices: &mut [u32]) -> Walked
     requires { 65536 ≤ length indices.old }
     ensures { WalkedPost batch.now indices.old result indices.new }

@@ -1,5 +1,5 @@
-// Many states, added one after the other: question 1 is asked once, and then each state goes to `Fitted::add`, which does not ask it again. One state is a fold of one: with a
-// single call of it in the library LLVM puts its code into the loop, and the head stays where it is from turn to turn.
+// Many states, added one after the other: question 1 is asked once, and then each state goes to `Fitted::add`, which does not ask it again. One state is a fold of
+// one: with a single call of it in the library LLVM puts its code into the loop, and the head stays where it is from turn to turn.
 ghost use Rattle.std.specs.Prelude.{◌≡◌, true, ◌&&◌, leb, length};
 ghost use Rattle.rollup.specs.Accumulator.{mem};
 ghost use Rattle.rollup.specs.Lent.{mem_of, SameLent};
@@ -13,7 +13,8 @@ use rollup::memory::Memory;
 use rollup::refusal;
 use rollup::refusal::Refusal;
 
-// Whether the ends are of states in so many bytes. The loop has no way out, so that it has no branch: a fold of right ends pays little.
+// Whether the ends are of states in so many bytes. The loop has no way out, so that it has no branch: a fold of right ends pays little. It is not `is_ascending` of `lists`:
+// that is of 32-bit values, with a contract over `ascends`, and here the last end is compared with the size as well.
 #[tactic(auto, unfolding(crate::specs::Folds::ends_fit))]
 fn ends_fit(ends: &[u64], size: u64) -> bool
     ensures { result ≡ ends_fit size 0 ends.now }
@@ -57,7 +58,8 @@ fn fold_states(
 }
 
 // Question 1, once, and then the states. The answer is to that question; each state has its own. The memory is put together here, in the function that has
-// the loop, so that LLVM has its slices in hand: those of a struct behind a reference are read again in each turn.
+// the loop, so that LLVM has its slices in hand: those of a struct behind a reference are read again in each turn, and with a `Memory` lent to it a list of one value
+// took 1.13 to 1.19 times as long. An answer is a number, since callers lend bytes for them.
 pub(crate) fn fold(
     head: &mut Accumulator,
     registers: &mut [u8],

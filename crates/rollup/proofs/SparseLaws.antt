@@ -25,7 +25,7 @@ use Rattle.rollup.specs.declared.paths.Path.TheVariants.{Waits, Sorts, Inserts, 
 use Rattle.rollup.specs.Accumulator.{Mem, mem, kept_of, waiting_of, limit}
 use Rattle.rollup.specs.Taking.{After, counted, with_list, densed, as_list, as_dense, settle, list_path, all_merged, as_waiting, list_after, row_taken, sparse_after, Shows}
 use Rattle.rollup.specs.Adding.{wanted_precision}
-use Rattle.rollup.specs.Stages.{SettlePre, Leaves, BackPre, JoinPre, ListReady, ListRoom, MergeInPre, InsertInPre, DensifyPre, TakingPre}
+use Rattle.rollup.specs.Stages.{SettlePre, Leaves, BackPre, ListReady, ListRoom, MergeInPre, InsertInPre, DensifyPre, TakingPre}
 use Rattle.rollup.proofs.FitLaws.{FitSparse, fit_sparse, counts_short}
 use Rattle.rollup.proofs.PathLaws.{is_some, path_form, path_some, path_inserts}
 
@@ -187,41 +187,6 @@ module _ {enc : Encoding} {sparse : List ℕ} {n : ℕ} {incoming scratch : List
         length-take-le n sparse (let h : n ≤ length sparse = omega (arith, pre.room) in h),
       )
 
-module _ {enc : Encoding} {sparse : List ℕ} {n : ℕ} {pending : List ℕ} {w : ℕ} {scratch : List ℕ} {k : ℕ} (pre : JoinPre enc sparse n pending w scratch k) where
-  -- The values that come in were copied after those that wait.
-  abbrev both : List ℕ
-  both = take w pending ++ take k scratch
-
-  both_length : length both ≡ w + k
-  both_length =
-      length-append (take w pending) (take k scratch)
-      ∙ ap₂ (λ (x y : ℕ). x + y) (length-take-le w pending (let h : w ≤ length pending = omega (arith, pre.in_pending) in h))
-      (length-take-le k scratch (let h : k ≤ length scratch = omega (arith, pre.in_scratch) in h))
-
-  module _ (first : List ℕ) (f : take (w + length (take k scratch)) first ≡ both) where
-    -- They were put in order, in place.
-    module _ {ordered : List ℕ} (g : ordered ≡ sort_of (take (w + k) first)) where
-      in_order : ordered ≡ sort_of both
-      in_order = g ∙ ap sort_of (appended w scratch first (let h : k ≤ length scratch = omega (arith, pre.in_scratch) in h) f)
-
-      pub joined_back : {spare : List ℕ} → length spare ≡ length scratch → BackPre enc sparse n ordered spare
-      joined_back {spare} same =
-          let p = enc.normal_precision in
-          let s = enc.sparse_precision in
-          let kept_length = length-take-le n sparse (let h : n ≤ length sparse = omega (arith, pre.in_sparse) in h) in
-          record {
-            merge =
-                sorted_merge enc both in_order pre.order pre.kept_valid
-                (valid_append p s (take w pending) (take k scratch) pre.waiting_valid pre.incoming_valid)
-                (omega (arith, pre.in_scratch, pre.in_sparse, same, kept_length, both_length));
-            room = omega (arith, pre.in_sparse, ap length in_order, length_sort both, both_length);
-          }
-
-      pub joined_post : {r : Merged} {after : List ℕ}
-          → MergePost enc.normal_precision enc.sparse_precision (take n sparse) ordered r after
-          → MergePost enc.normal_precision enc.sparse_precision (take n sparse) both r after
-      joined_post = sorted_post enc both in_order
-
 -- ---- all values as one list
 
 -- The merge of two lists, with so many bytes to go with it.
@@ -277,30 +242,46 @@ module _ {h : Accumulator} {registers sparse pending scratch : List ℕ} {k : �
   merged_few : length kept + length waiting ≤ 2147483647
   merged_few = omega (arith, pre.ready.short, taken_length h.sparse_len sparse, taken_length h.pending_len pending)
 
-  module _ {u : Merged} {after : List ℕ} (post : MergePost enc.normal_precision enc.sparse_precision kept (waiting ++ vs) u after) where
-    merged_one : OneList h.precision h.sparse_precision kept (waiting ++ vs)
-        (written (merged h.precision h.sparse_precision kept (waiting ++ vs))) u after
-    merged_one =
-        let x = at_pair new (λ (p s : ℕ). MergePost p s kept (waiting ++ vs) u after) post in
-        record { count = x.count; sum = x.bytes; values = x.values }
+  -- Those that wait and those that come in were put in order.
+  module _ {ordered : List ℕ} (in_order : ordered ≡ sort_of (waiting ++ vs)) where
+    pub merged_back : {spare : List ℕ} → length spare ≡ length scratch → BackPre enc sparse h.sparse_len ordered spare
+    merged_back {spare} same =
+        let kept_length = taken_length h.sparse_len sparse in
+        let both_length : length (waiting ++ vs) ≤ h.pending_len + k = omega (arith, length-append waiting vs, taken_length h.pending_len pending, taken_length k scratch) in
+        record {
+          merge =
+              sorted_merge enc (waiting ++ vs) in_order pre.ready.order
+              (of_pair new (λ (p s : ℕ). all_valid p s kept ≡ true) pre.ready.kept_valid)
+              (of_pair new (λ (p s : ℕ). all_valid p s (waiting ++ vs) ≡ true)
+              (valid_append h.precision h.sparse_precision waiting vs pre.ready.waiting_valid pre.ready.incoming_valid))
+              (omega (arith, pre.room.in_scratch, same, kept_length, both_length));
+          room = omega (arith, pre.room.in_sparse, ap length in_order, length_sort (waiting ++ vs), both_length);
+        }
 
-    merged_inside : length after ≡ length sparse → u.len ≤ length after
-    merged_inside e =
-        omega (
-          arith,
-          one_count pre.ready merged_few merged_one,
-          pre.room.in_sparse,
-          taken_length h.sparse_len sparse,
-          taken_length h.pending_len pending,
-          taken_length k scratch,
-        )
+    module _ {u : Merged} {after : List ℕ} (post : MergePost enc.normal_precision enc.sparse_precision kept ordered u after) where
+      merged_one : OneList h.precision h.sparse_precision kept (waiting ++ vs)
+          (written (merged h.precision h.sparse_precision kept (waiting ++ vs))) u after
+      merged_one =
+          let x = at_pair new (λ (p s : ℕ). MergePost p s kept (waiting ++ vs) u after) (sorted_post enc (waiting ++ vs) in_order post) in
+          record { count = x.count; sum = x.bytes; values = x.values }
 
-    pub merged_settle : length after ≡ length sparse → SettlePre h enc registers after u
-    merged_settle e = one_settle pre.ready merged_few merged_one pre.in_registers new (merged_inside e)
+      merged_inside : length after ≡ length sparse → u.len ≤ length after
+      merged_inside e =
+          omega (
+            arith,
+            one_count pre.ready merged_few merged_one,
+            pre.room.in_sparse,
+            taken_length h.sparse_len sparse,
+            taken_length h.pending_len pending,
+            taken_length k scratch,
+          )
 
-    pub merged_shows : {left : List ℕ} {r : Accumulator} (rest : List ℕ) → Leaves (settle h registers (take u.len after) u.bytes) r left
-        → Shows (settle h registers (all_merged h (mem registers sparse pending) vs) (written (all_merged h (mem registers sparse pending) vs))) r (mem left after rest)
-    merged_shows = one_shows pre.ready merged_few merged_one registers
+      pub merged_settle : length after ≡ length sparse → SettlePre h enc registers after u
+      merged_settle e = one_settle pre.ready merged_few merged_one pre.in_registers new (merged_inside e)
+
+      pub merged_shows : {left : List ℕ} {r : Accumulator} (rest : List ℕ) → Leaves (settle h registers (take u.len after) u.bytes) r left
+          → Shows (settle h registers (all_merged h (mem registers sparse pending) vs) (written (all_merged h (mem registers sparse pending) vs))) r (mem left after rest)
+      merged_shows = one_shows pre.ready merged_few merged_one registers
 
 -- They are inserted.
 module _ {h : Accumulator} {registers sparse scratch : List ℕ} {k : ℕ} (pre : InsertInPre h registers sparse scratch k) {enc : Encoding}

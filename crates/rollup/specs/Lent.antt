@@ -7,7 +7,7 @@ use Rattle.rollup.specs.Accumulator.{Mem, mem}
 abbrev pub mem_of : Memory → Mem
 mem_of m = mem m.registers.now m.sparse.now m.pending.now
 
--- The references stay the caller's, and as long as they were.
+-- The references stay the caller's, and as long as they were. The check asks each function that is lent a struct with `&mut` to promise it.
 pub record SameLent (m n : Memory) : Type 0 where
   pub registers : n.registers.ghost_name ≡ m.registers.ghost_name
   pub sparse : n.sparse.ghost_name ≡ m.sparse.ghost_name

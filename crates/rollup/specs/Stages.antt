@@ -79,17 +79,6 @@ pub record BackPre (enc : Encoding) (sparse : List ℕ) (n : ℕ) (incoming scra
   pub merge : MergePre enc (take n sparse) incoming scratch
   pub room : n + length incoming ≤ length sparse
 
--- The same with the values that wait and those that come in, which stand at the start of `scratch`.
-pub record JoinPre (enc : Encoding) (sparse : List ℕ) (n : ℕ) (pending : List ℕ) (w : ℕ) (scratch : List ℕ) (k : ℕ) : Type 0 where
-  pub order : ascends (take n sparse) ≡ true
-  pub kept_valid : all_valid enc.normal_precision enc.sparse_precision (take n sparse) ≡ true
-  pub waiting_valid : all_valid enc.normal_precision enc.sparse_precision (take w pending) ≡ true
-  pub incoming_order : ascends (take k scratch) ≡ true
-  pub incoming_valid : all_valid enc.normal_precision enc.sparse_precision (take k scratch) ≡ true
-  pub in_sparse : n + w + k ≤ length sparse
-  pub in_pending : n + w + k ≤ length pending
-  pub in_scratch : n + w + k ≤ length scratch
-
 -- The values kept, waiting and coming in, and their counts.
 pub record ListReady (p s : ℕ) (h : Accumulator) (kept waiting vs : List ℕ) : Type 0 where
   pub pair : Pair p s

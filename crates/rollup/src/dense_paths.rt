@@ -20,6 +20,8 @@ fn signed_min(x: u32, y: u32) -> u32
     x.cast_signed().min(y.cast_signed()).cast_unsigned()
 }
 
+// ---- registers. They are a slice and a precision, as in `registers` of `lists`.
+
 // Makes the roll-up's registers those of the smaller precision, which is the answer. Where that is its own already, they are not walked.
 fn lower_own(registers: &mut [u8], p: u32, other: u32) -> u32
     requires { LowerOwnPre p registers.old }
@@ -63,6 +65,8 @@ fn raise(registers: &mut [u8], q: u32, x: Incoming, row: &[u8], values: &[u32])
         raise_by_row(registers, q, row, x.precision);
     }
 }
+
+// ---- the path
 
 impl Accumulator {
     // What comes to a dense roll-up. The head has the smaller of each precision then. Its kept bytes, which question 1 does not ask for, stay as they are.

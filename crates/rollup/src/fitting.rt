@@ -1,5 +1,6 @@
 // Question 1: whether a head fits the memory that is lent with it. Nothing of either is taken on trust, so no sum is made before
-// its parts are known to be small, and no part of a slice is taken before its count is known to lie inside.
+// its parts are known to be small, and no part of a slice is taken before its count is known to lie inside. Four functions ask that p is from 4 to 24: a type for such
+// a p would be made and opened in each caller.
 ghost use Rattle.std.specs.Prelude.{◌≡◌, ◌≤◌, []};
 ghost use Rattle.lists.specs.Values.{Pair};
 ghost use Rattle.rollup.specs.Accumulator.{mem, limit, max_pending, ranges_fit, no_lists, waiting_bound, waiting_fits, counts_fit, lists_fit, registers_fit, sparse_fits, dense_fits, fits as headFits};

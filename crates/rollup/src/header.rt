@@ -10,6 +10,8 @@ use crate::refusal::Refusal;
 use lists::{registers, values};
 use wire::view::StateView;
 
+// The aggregator's type and the value types are numbers of the format, and a value type is one of C's head as well: an enum would be made of them and turned back.
+
 pub(crate) const HYPERLOGLOG_PLUS_UNIQUE: u32 = 112;
 
 pub(crate) const ENCODING_VERSION: u32 = 2;

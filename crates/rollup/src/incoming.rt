@@ -1,4 +1,5 @@
 // What is taken in, beside its registers or its values: the numbers that module 6's paths use. Those of a state are one case (`state_numbers` in adding).
+// A row of registers and a count of values go beside it, where an empty row means values. An enum of the two would be matched in three functions that have one `if` now.
 ghost use Rattle.std.specs.Prelude.{◌≡◌};
 ghost use Rattle.rollup.specs.Taking.{counted};
 

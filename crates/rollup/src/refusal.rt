@@ -1,4 +1,5 @@
-// Document 01's refusals: the first question that was answered with no. Two of them carry an error of `wire` or `lists`, so the numbers come from a method and are no discriminants.
+// Document 01's refusals: the first question that was answered with no. Two of them carry an error of `wire` or `lists`, so the numbers come from a method and
+// are no discriminants.
 ghost use Rattle.std.specs.Prelude.{◌≡◌};
 ghost use Rattle.rollup.specs.declared.refusal.Refusal.TheVariants.{Unread, BadList, OutputTooShort};
 ghost use Rattle.rollup.specs.Refusals.{number, answer_of};
@@ -34,7 +35,7 @@ pub enum Refusal {
 }
 
 impl Refusal {
-    // Document 01's number.
+    // Document 01's number. It has a method, since a contract says which one it is: C and the report are told it.
     pub fn number(self) -> u8
         ensures { result ≡ number self }
     {

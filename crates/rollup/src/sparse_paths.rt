@@ -9,7 +9,7 @@ ghost use Rattle.rollup.specs.declared.accumulator.Form.TheVariants.{Sparse as L
 ghost use Rattle.rollup.specs.Accumulator.{kept_of};
 ghost use Rattle.rollup.specs.Lent.{mem_of, SameLent};
 ghost use Rattle.rollup.specs.Taking.{densed, settle, all_merged, row_taken, as_waiting, sparse_after, Shows};
-ghost use Rattle.rollup.specs.Stages.{SettlePre, Leaves, BackPre, JoinPre, MergeInPre, InsertInPre, SetListsPre, DensifyPre, TakingPre};
+ghost use Rattle.rollup.specs.Stages.{SettlePre, Leaves, BackPre, MergeInPre, InsertInPre, SetListsPre, DensifyPre, TakingPre};
 
 use crate::accumulator::{Accumulator, Form};
 use crate::fitting;
@@ -40,15 +40,17 @@ pub fn set_lists(registers: &mut [u8], enc: Sparse, kept: &[u32], waiting: &[u32
     registers::set_registers(registers, enc, 0, waiting);
 }
 
-// ---- merging
+// ---- merging. A list comes whole and with its count: what is put behind the counted values needs the room.
 
-// Puts a list in order. Where none of its values waited before (w is 0), it is in order already.
-fn in_order(list: &mut [u32], w: usize, scratch: &mut [u32])
-    requires { (length list.old ≤ length scratch.old) × (w ≡ 0 → ascends list.old ≡ true) }
-    ensures { list.new ≡ sort_of list.old }
+// The first k values of `scratch` go behind the w that wait, and all these are put in order: where none waited, they are in order already. `scratch` is the spare
+// of the sort.
+fn join_waiting(pending: &mut [u32], w: usize, scratch: &mut [u32], k: usize)
+    requires { (w + k ≤ length pending.old) × (w + k ≤ length scratch.old) × (ascends (take k scratch.old) ≡ true) }
+    ensures { take (w + k) pending.new ≡ sort_of (take w pending.old ++ take k scratch.old) }
 {
+    append(pending, w, &scratch[..k]);
     if w != 0 {
-        sorting::sort_runs(list, scratch);
+        sorting::sort_runs(&mut pending[..w + k], scratch);
     }
 }
 
@@ -66,27 +68,6 @@ fn merge_back(
     let r = enc.merge_dedupe_into(&sparse[..n], incoming, scratch);
     append(sparse, 0, &scratch[..r.len]);
     r
-}
-
-// The first n values of `sparse`, merged with the w that wait and the k that come in. First the latter go behind those that wait: `scratch` is the
-// spare of the sort, and takes the merge. Lists come whole and with their counts, since what is put behind the counted values needs the room; and as slices, not as a
-// `Memory`, so that parts of two can be lent at once.
-fn merge_all(
-    enc: Sparse,
-    sparse: &mut [u32],
-    n: usize,
-    pending: &mut [u32],
-    w: usize,
-    scratch: &mut [u32],
-    k: usize,
-) -> Merged
-    requires { JoinPre enc sparse.old n pending.old w scratch.old k }
-    ensures { MergePost enc.normal_precision enc.sparse_precision (take n sparse.old) (take w pending.old ++ take k scratch.old) result sparse.new }
-{
-    append(pending, w, &scratch[..k]);
-    let all = &mut pending[..w + k];
-    in_order(all, w, scratch);
-    merge_back(enc, sparse, n, all, scratch)
 }
 
 // ---- the paths. `self` has the mask and the count of what comes in already.
@@ -168,16 +149,16 @@ impl Accumulator {
         ensures same { SameLent memory.old memory.new }
     {
         let enc = self.encoding();
-        let r = merge_all(
-            enc,
-            memory.sparse,
-            self.sparse_len,
-            memory.pending,
-            self.pending_len,
-            memory.scratch,
-            k,
+        let (registers, sparse, pending, scratch) = (
+            &mut *memory.registers,
+            &mut *memory.sparse,
+            &mut *memory.pending,
+            &mut *memory.scratch,
         );
-        let (registers, sparse) = (&mut *memory.registers, &mut *memory.sparse);
+        let w = self.pending_len;
+        join_waiting(pending, w, scratch, k);
+        let all = &pending[..];
+        let r = merge_back(enc, sparse, self.sparse_len, &all[..w + k], scratch);
         self.settle(enc, registers, sparse, r)
     }
 

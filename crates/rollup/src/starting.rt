@@ -10,7 +10,8 @@ use crate::incoming::Incoming;
 use crate::memory::{Memory, append};
 use lists::registers;
 
-// "The first state sets the head. Its list goes to kept, repeats included, and kept bytes is its field's length, L unchecked." The first k cells of `scratch` are its values.
+// "The first state sets the head. Its list goes to kept, repeats included, and kept bytes is its field's length, L unchecked." The first k cells of `scratch` are its
+// values.
 pub(crate) fn start(x: Incoming, memory: &mut Memory, row: &[u8], k: usize) -> Accumulator
     requires { StartPre memory.old.registers.now memory.old.sparse.now memory.old.scratch.now x row.now k }
     ensures shows { Shows (start_after (mem_of memory.old) x row.now (take k memory.old.scratch.now)) result (mem_of memory.new) }
