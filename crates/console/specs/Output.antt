@@ -1,5 +1,5 @@
 -- What a program says, and the text of an answer.
-use Rattle.std.specs.Prelude.{◌≡◌, List, [], ◌∷◌, Bool, cond, ℕ, ◌+◌, ◌-◌, ◌/◌, ◌%◌, ◌^◌, ltb, eqb, take, drop}
+use Rattle.std.specs.Prelude.{◌≡◌, List, [], ◌∷◌, Bool, cond, ℕ, ◌+◌, ◌/◌, ◌%◌, ltb, eqb, take, drop}
 use Prim.Native.Char.{code}
 use Prim.Native.String.{String, [] as empty, ◌∷◌ as ◌then◌}
 use Rattle.std.specs.Counts.{IsPrefixLen}
@@ -35,10 +35,6 @@ pub record SaidPost (w : Saying) (before : List ℕ) (r : Said) (after : List �
 
 abbrev pub all_are : ℕ → List ℕ → Bool
 all_are b = list_all (λ x. eqb x b)
-
--- Two's complement: the sign bit of 32 goes into the 32 bits above.
-abbrev pub widened_of : ℕ → ℕ
-widened_of v = cond (ltb v (2 ^ 31)) v (v + (2 ^ 64 - 2 ^ 32))
 
 -- The ASCII code of a digit below 16: `0` to `9`, then `a` to `f`.
 abbrev pub hex_digit_ascii : ℕ → ℕ

@@ -142,7 +142,7 @@ pub fn digit(b: u8) -> Option<u8>
     }
 }
 
-// A decimal number below 2^64, which is the whole word.
+// A decimal number below 2^64, which is the whole word. Not `parse`, which takes a `+` in front and wants a `str`.
 pub fn read_number(word: &[u8]) -> Option<u64>
     ensures { result ≡ below64 (decimal_of word.now) }
 {
@@ -173,6 +173,7 @@ pub fn read_pairs<F: Fn(u8) -> Option<u8> + Drop>(
     if out.len() < n || word.len() % 2 == 1 {
         return None;
     }
+    // By the place, and not over `out.iter_mut()` beside the pairs: behind an adapter no contract says what it leaves.
     for (i, pair) in word.chunks_exact(2).enumerate() {
         let high = digit(pair[0])?;
         let low = digit(pair[1])?;

@@ -1,8 +1,8 @@
-// Making the text of an answer in a buffer, and writing it. It is made so, and not by `fmt` as the texts of `show`, where a contract says which text it is. What
-// is written no contract can say.
+// Making the text of an answer in a buffer, and writing it. It is made so, and not by `fmt` as the texts of `show`, where a contract says which text it is. No
+// contract can say what is written.
 ghost use Rattle.std.specs.Prelude.{◌≡◌, ◌*◌, ◌≤◌, ◌<◌, length};
 ghost use Rattle.std.specs.Counts.{IsPrefixLen};
-ghost use Rattle.console.specs.Output.{size_of, all_are, widened_of, hex_digit_ascii, HexPost};
+ghost use Rattle.console.specs.Output.{size_of, all_are, hex_digit_ascii, HexPost};
 
 use std::io;
 use std::io::Print;
@@ -20,13 +20,6 @@ pub fn all_are(s: &[u8], b: u8) -> bool
     ensures { result ≡ all_are b s.now }
 {
     s.iter().all(|&x| x == b)
-}
-
-// The signed 32-bit number of these bits, as the 64-bit one.
-pub fn widened(v: u32) -> u64
-    ensures { result ≡ widened_of v }
-{
-    i64::from(v.cast_signed()).cast_unsigned()
 }
 
 fn glyph(d: u8) -> u8
@@ -56,7 +49,8 @@ pub(crate) fn complain(stderr: &impl Print, program: &[u8], what: &[u8]) -> io::
     stderr.write_all(what)
 }
 
-// Says it. Where standard output cannot be written, the program of this name says so on standard error. What reaches a descriptor no contract can say.
+// Says it. Where standard output cannot be written, the program of this name says so on standard error. No contract can say what reaches a descriptor.
+// (`stdout` and `stderr` are two parameters, here and in the programs: a struct of both would have a type parameter for each, and be taken apart here alone.)
 pub fn say(stdout: &impl Print, stderr: &impl Print, program: &[u8], said: Said, text: &[u8])
     requires { IsPrefixLen (size_of said) text.now }
 {

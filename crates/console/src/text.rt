@@ -23,8 +23,7 @@ pub fn read_value(word: &[u8]) -> Option<u32>
     u32::try_from(read_number(word)?).ok()
 }
 
-// A number of 32 bits: 0 where the word is none. No list has the precision 0, so that 0 is refused as a word would be that is no number. `read_value` tells them
-// apart; a program that replays cases would make 0 of `None` in each call.
+// A number of 32 bits: 0 where the word is none, as for the head that a case of `rollup` has. `read_value` tells them apart.
 pub fn precision(word: &[u8]) -> u32
     ensures { result ≡ unwrap_or (below32 (decimal_of word.now)) 0 }
 {

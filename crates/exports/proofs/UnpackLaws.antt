@@ -1,5 +1,5 @@
 -- Laws of the text of a batch: a line, the lines of the records so far, and what unpacking answers.
-use mathlib.Core.Path.{◌≡◌, refl, sym, ap, ◌∙◌, subst}
+use mathlib.Core.Path.{◌≡◌, refl, sym, ap, ◌∙◌}
 use mathlib.Core.List.{List, [], ◌∷◌, ◌++◌, append_assoc, map, map-append}
 use mathlib.Core.Bool.{Bool, true, false, cond}
 use Prim.Native.Nat.{ℕ, ◌+◌, ◌*◌, ◌-◌, ◌^◌, ◌<◌, ◌≤◌}
@@ -17,7 +17,7 @@ use Rattle.batch.proofs.ChainLaws.{chain_is, batch_size, Walk, walk_start, walk_
 use Rattle.batch.proofs.UnpackingLaws.{state_short}
 use Rattle.console.specs.Output.{hex_text, HexPost}
 use Rattle.console.proofs.OutputLaws.{hex_length, hex_size, hex_line}
-use Rattle.std.specs.Prelude.{⊤, Result, Ok, Err, IsOkAnd, MatchResult}
+use Rattle.std.specs.Prelude.{⊤, Result, Ok, Err}
 use Rattle.exports.specs.declared.unpacking.UnpackError.{UnpackError}
 use Rattle.exports.specs.declared.unpacking.UnpackError.TheVariants.{Broken, TooLong}
 use Rattle.exports.specs.Text.{line_of, text_of}
@@ -165,13 +165,7 @@ module _ (batch out : List ℕ) where
     pub unpack_long : length out < length (batch_text batch) → UnpackedPost batch out (Err TooLong) out
     unpack_long h = record { answer = sym (ended false (lt-leb (length (batch_text batch)) (length out) h)); output = refl }
 
-    unpack_text : (now : List ℕ) (r : ℕ) → length (batch_text batch) ≤ length out → PutPost out 0 (batch_text batch) r now → UnpackedPost batch out (Ok r) now
+    pub unpack_text : (now : List ℕ) (r : ℕ) → length (batch_text batch) ≤ length out → PutPost out 0 (batch_text batch) r now → UnpackedPost batch out (Ok r) now
     unpack_text now r h p =
         let size : r ≡ length (batch_text batch) = omega (arith, p.next) in
         record { answer = ap Ok size ∙ sym (ended true (le-leb (length (batch_text batch)) (length out) h)); output = p.output }
-
-    -- The text was put, and an error, of which there is none, is mapped.
-    pub unpack_put : (now : List ℕ) (r : Result ℕ ChainError) (x : Result ℕ UnpackError) (Q : ChainError → Type 0) → length (batch_text batch) ≤ length out
-        → IsOkAnd r (λ n. PutPost out 0 (batch_text batch) n now) → MatchResult r (λ n. x ≡ Ok n) Q → UnpackedPost batch out x now
-    unpack_put now (Ok n) x Q h p e = subst (λ (y : Result ℕ UnpackError). UnpackedPost batch out y now) (sym e) (unpack_text now n h p)
-    unpack_put now (Err error) x Q h p e = absurd p

@@ -1,5 +1,5 @@
 // Base64, as RFC 4648 has it in section 4: strict, with padding, and the bits that padding leaves over are zero. By hand, and not by the kit's crate `base64`:
-// that states its answer for any engine, what a state is here the definition says in the words of the RFC, and it would be one more library to believe.
+// its contract is for any engine, the definition here follows the RFC, and a crate would be one more library to believe.
 ghost use Rattle.std.specs.Prelude.{◌≡◌, ◌+◌, ◌≤◌, ◌<◌, length, take, Some, IfSome};
 ghost use Rattle.std.proofs.lemmas.List.Edits.{sets};
 ghost use Rattle.console.specs.Input.{onto};
@@ -73,6 +73,7 @@ pub fn decode_base64(word: &[u8], out: &mut [u8]) -> Option<usize>
         return None;
     }
     let (front, last) = word.split_at(word.len() - 4);
+    // By the place, and not over `out.chunks_exact_mut(3)`: no contract says what a slice that is lent to it ends as.
     for (i, group) in front.chunks_exact(4).enumerate() {
         let v = bits(group[0], group[1], group[2], group[3])?;
         put_three(out, 3 * i, v);

@@ -1,4 +1,4 @@
-// Hexadecimal in upper or lower case. The kit's crate `hex` would be one more library to believe; what reads a word here reads the words of cases, too.
+// Hexadecimal in upper or lower case. The kit's crate `hex` would be one more library to believe. `read_pairs` is shared with the words of cases.
 ghost use Rattle.std.specs.Prelude.{◌≡◌, ◌<◌, IfSome};
 ghost use Rattle.console.specs.Input.{PairsPost};
 ghost use Rattle.exports.specs.Hexadecimal.{any_digit_of};

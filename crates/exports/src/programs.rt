@@ -11,6 +11,7 @@ use console::output::Said;
 use console::{input, output};
 use std::io::{Print, Read};
 
+// Two functions, this and `tell_of_unpacking`, since each asks its own program's reply of the caller.
 fn tell_of_packing(
     stdout: &impl Print,
     stderr: &impl Print,

@@ -13,7 +13,8 @@ use console::input::{Arrived, StreamError};
 use console::output::Said;
 use wire::encoding::put_bytes;
 
-// Puts a piece of text and then a number in decimal at `at`, and answers the position past them.
+// Puts a piece of text and then a number in decimal at `at`, and answers the position past them. (In a lent buffer, and not by `fmt`, since the contract says the
+// text. The whole of it and a place in it: the contract says what stands at that place of the whole.)
 fn put_numbered(text: &mut [u8], at: usize, piece: &[u8], n: usize) -> usize
     requires { at + length piece.now + 20 ≤ length text.old }
     ensures { PutPost text.old at (piece.now ++ decimal n) result text.new }
@@ -88,7 +89,7 @@ fn unpack_batch(batch: &[u8], text: &mut [u8]) -> Said
     ensures { SaidPost (batch_says batch.now) text.old result text.new }
 {
     match unpacking::unpack(batch, text) {
-        Ok(n) => Said::Out(n),
+        Ok(len) => Said::Out(len),
         Err(UnpackError::Broken { records, error }) => complain_of_chain(text, records, error),
         Err(UnpackError::TooLong) => complain(
             text,

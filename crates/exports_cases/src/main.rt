@@ -20,7 +20,7 @@ fn print_walk(rt: &impl Print, batch: &[u8]) -> io::Result<()> {
     let n = w.records;
     match w.ending {
         Ok(()) => print!(rt; "{n} 0")?,
-        Err(e) => print!(rt; "{n} {}", e as u8)?,
+        Err(e) => print!(rt; "{n} {}", e.number())?,
     }
     for &index in &indices[..n] {
         print!(rt; " {}", Hex(unpacking::state_at(batch, index as usize)))?;

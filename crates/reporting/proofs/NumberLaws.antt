@@ -7,7 +7,11 @@ use native.Mathlib.Omega.{arith}
 use lib.ListN.{length, length-append}
 use borrow.Author.Tests.{lt-ltb, le-ltb}
 use mir.Syntax.{w64}
-use Rattle.std.specs.Int.{cast_signed}
+use lib.IntN.{ℤ}
+use Rattle.std.specs.Int.{cast_signed, cast_unsigned}
+use Rattle.std.specs.Prelude.{FitsSigned}
+use Rattle.std.proofs.Math.Facts.{Fits-of_z}
+use Rattle.std.proofs.lemmas.Int.{to_z-of_z}
 use Rattle.std.specs.Fmt.{signed_decimal}
 use Rattle.std.specs.Prelude.{decimal}
 use Rattle.std.proofs.lemmas.Fmt.{length-decimal-le}
@@ -47,3 +51,14 @@ module _ (v : ℕ) where
   unfolding number_text
   number_short end j few l =
       omega (arith, length-append (signed_text v) (end ∷ []), ap length (signed_low l), length-decimal-le (suc j) v (omega arith) few (omega arith))
+
+-- The same of a signed number, by its bits.
+module _ (z : ℤ) (fits : FitsSigned w64 z) where
+  small : cast_unsigned w64 z < 2 ^ 64
+  small = (Fits-of_z fits).fits
+
+  pub signed_is : signed_decimal z ≡ signed_text (cast_unsigned w64 z)
+  signed_is = ap signed_decimal (sym (to_z-of_z w64 z fits)) ∙ signed_bits (cast_unsigned w64 z) small
+
+  pub signed_is_short : length (signed_text (cast_unsigned w64 z)) ≤ 21
+  signed_is_short = signed_length (cast_unsigned w64 z) small

@@ -11,7 +11,8 @@ use borrow.Rule.Slice.PartMut.{mid_of, put_mid}
 use Rattle.wire.specs.Varints.{PutPost}
 use Rattle.wire.proofs.EncodingLaws.{sets_more, Two, Four, four, two_length}
 use Rattle.std.specs.Fmt.{digits}
-use Rattle.console.specs.Output.{widened_of, hex_text, HexPost}
+use Rattle.wire.specs.Encoding.{sign_extended}
+use Rattle.console.specs.Output.{hex_text, HexPost}
 use Rattle.console.proofs.OutputLaws.{hex_length, hex_size, hex_line}
 use Rattle.rollup.specs.declared.accumulator.Accumulator.{Accumulator}
 use Rattle.rollup.specs.Accumulator.{fresh}
@@ -47,9 +48,6 @@ pub record Going (out bytes now : List ℕ) (at : ℕ) (rest : List ℕ) : Type 
   pub whole : sets out 0 bytes ≡ sets now at rest
   pub size : length bytes ≡ at + length rest
 
-pub going_start : (out bytes : List ℕ) → Going out bytes out 0 bytes
-going_start out bytes = record { whole = refl; size = omega arith }
-
 pub going_put : {out bytes now rest x y after : List ℕ} {at next : ℕ} → Two rest x y → PutPost now at x next after → Going out bytes now at rest
     → Going out bytes after next y
 going_put {now = now} {x = x} {y = y} {at = at} t p g =
@@ -79,7 +77,7 @@ module _ (answers : List ℕ) (i : ℕ) where
 -- ---- the four numbers
 
 pub numbers_are : (a : Accumulator) (c : Option ℕ)
-    → Four (numbers_text a c) (number_text a.precision 32) (number_text (widened_of a.sparse_precision) 32) (number_text a.num_values 32) (number_text (not_zero_of c) 10)
+    → Four (numbers_text a c) (number_text a.precision 32) (number_text (sign_extended a.sparse_precision) 32) (number_text a.num_values 32) (number_text (not_zero_of c) 10)
 unfolding numbers_line
 numbers_are a c = four _ _ _ _ refl
 

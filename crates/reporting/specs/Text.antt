@@ -1,7 +1,8 @@
 -- The text that is printed of a batch, from what `batch` reports of it. The quotes are of document 01, "The batch"; that each line ends in a newline, 10,
 -- and that the state is lowercase hexadecimal is decided in docs/DECISIONS.md, "The crate `reporting`". 32 is a blank.
 use Rattle.std.specs.Prelude.{⊤, Option, Some, None, Result, Ok, Err, List, [], ◌∷◌, ◌++◌, cond, ℕ, ◌+◌, eqb, take}
-use Rattle.console.specs.Output.{widened_of, hex_text}
+use Rattle.wire.specs.Encoding.{sign_extended}
+use Rattle.console.specs.Output.{hex_text}
 use Rattle.rollup.specs.declared.accumulator.Accumulator.{Accumulator}
 use Rattle.batch.specs.declared.records.Ending.{Ending}
 use Rattle.batch.specs.declared.records.Ending.TheVariants.{Refused, Full}
@@ -32,7 +33,7 @@ not_zero_of None = 0
 
 -- "Then p, s, value count, registers not zero": s is a signed 32-bit number, the value count one of 64 bits.
 unfoldable pub numbers_line : ℕ → ℕ → ℕ → ℕ → List ℕ
-numbers_line p s count not_zero_count = number_text p 32 ++ (number_text (widened_of s) 32 ++ (number_text count 32 ++ number_text not_zero_count 10))
+numbers_line p s count not_zero_count = number_text p 32 ++ (number_text (sign_extended s) 32 ++ (number_text count 32 ++ number_text not_zero_count 10))
 
 -- The same of a head, which has the first three.
 abbrev pub numbers_text : Accumulator → Option ℕ → List ℕ

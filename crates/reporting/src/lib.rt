@@ -20,7 +20,7 @@ use wire::encoding::put_bytes;
 mod text;
 
 // Rolls up a batch in "65,536 registers, three lists of 16,384 and 65,536 output bytes". 65,536 cells suffice for the answers, and a piece as long as the
-// registers for those of a list.
+// registers for those of a list. (`answers` and `out` are two parameters here and below, since `closing::roll` takes them one by one.)
 fn roll_up(batch: &[u8], answers: &mut [u8; 65536], out: &mut [u8; 65536]) -> Report
     ensures { RolledUp batch.now result answers.new out.new }
 {
@@ -77,7 +77,7 @@ fn respond(heard: Option<Report>, answers: &[u8], out: &[u8], text: &mut [u8; 35
     }
 }
 
-// That what is handed over is what `roll` is to say of the stream that was read into this buffer is what this asks; what reaches a descriptor no contract can say.
+// Asks that the text is what `roll` says of the stream in this buffer. No contract can say what reaches a descriptor.
 fn hand_over(
     stdout: &impl Print,
     stderr: &impl Print,

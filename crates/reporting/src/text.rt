@@ -1,5 +1,7 @@
 // The text that is printed of a batch, made in a lent buffer. Each function's contract says which bytes it puts: they are the definition's.
+// (The whole output and a place in it: the contract says what stands at that place of the whole.)
 ghost use Rattle.std.specs.Prelude.{◌≡◌, ◌+◌, ◌*◌, ◌≤◌, length, take};
+ghost use Rattle.std.specs.Int.{cast_unsigned, w64};
 ghost use Rattle.std.specs.Counts.{IsPrefixLen};
 ghost use Rattle.wire.specs.Varints.{PutPost};
 ghost use Rattle.reporting.specs.Numbers.{number_text};
@@ -15,13 +17,13 @@ use rollup::refusal::Refusal;
 use wire::encoding::put_bytes;
 
 // Puts a number in decimal and the byte after it, a blank or a newline, and answers the position past them.
-fn put_number(text: &mut [u8], at: usize, v: u64, end: u8) -> usize
+fn put_number(text: &mut [u8], at: usize, v: i64, end: u8) -> usize
     requires { at + 22 ≤ length text.old }
-    ensures put { PutPost text.old at (number_text v end) result text.new }
+    ensures put { PutPost text.old at (number_text (cast_unsigned w64 v) end) result text.new }
     ensures room { result ≤ at + 22 }
 {
     let mut digits = itoa::Buffer::new();
-    let next = put_bytes(text, at, digits.format(v.cast_signed()).as_bytes());
+    let next = put_bytes(text, at, digits.format(v).as_bytes());
     put_bytes(text, next, &[end])
 }
 
@@ -31,8 +33,8 @@ fn put_answer(text: &mut [u8], at: usize, ordinal: usize, answer: u8) -> usize
     ensures put { PutPost text.old at (answer_line ordinal answer) result text.new }
     ensures room { result ≤ at + 44 }
 {
-    let next = put_number(text, at, ordinal as u64, b' ');
-    put_number(text, next, u64::from(answer), b'\n')
+    let next = put_number(text, at, (ordinal as u64).cast_signed(), b' ');
+    put_number(text, next, i64::from(answer), b'\n')
 }
 
 // The lines of all records at the front of the buffer. A line has 10 bytes at most: an ordinal of five digits, an answer of three, a blank, a newline.
@@ -57,7 +59,7 @@ fn put_ending(text: &mut [u8], at: usize, ending: Result<(), Ending>, records: u
 {
     match ending {
         Ok(()) | Err(Ending::Full) => at,
-        Err(Ending::Refused(e)) => put_answer(text, at, e.ordinal(records), e as u8),
+        Err(Ending::Refused(e)) => put_answer(text, at, e.ordinal(records), e.number()),
     }
 }
 
@@ -67,11 +69,13 @@ fn put_numbers(text: &mut [u8], at: usize, a: Accumulator, not_zero: Option<usiz
     ensures put { PutPost text.old at (numbers_text a not_zero) result text.new }
     ensures room { result ≤ at + 88 }
 {
-    let second = put_number(text, at, u64::from(a.precision), b' ');
-    let third = put_number(text, second, output::widened(a.sparse_precision), b' ');
-    let fourth = put_number(text, third, a.num_values, b' ');
+    let second = put_number(text, at, i64::from(a.precision), b' ');
+    let s = i64::from(a.sparse_precision.cast_signed());
+    let third = put_number(text, second, s, b' ');
+    let fourth = put_number(text, third, a.num_values.cast_signed(), b' ');
     // `None` cannot come up: the piece lent for a list's registers is as long as the registers.
-    put_number(text, fourth, not_zero.unwrap_or(0) as u64, b'\n')
+    let count = not_zero.unwrap_or(0) as u64;
+    put_number(text, fourth, count.cast_signed(), b'\n')
 }
 
 // The written state and a newline, or the number of the refusal.
@@ -86,7 +90,7 @@ fn put_state(text: &mut [u8], at: usize, written: Result<usize, Refusal>, out: &
             text[end] = b'\n';
             end + 1
         }
-        Err(e) => put_number(text, at, u64::from(e.number()), b'\n'),
+        Err(e) => put_number(text, at, i64::from(e.number()), b'\n'),
     }
 }
 

@@ -18,7 +18,8 @@ fn put_times(piece: &[u8], n: u64, out: &mut [u8], start: usize) -> Option<usize
     Some(at)
 }
 
-// Puts the bytes of a word behind the first `at` bytes of `out`, and answers where they end. They stand there once where there is no star.
+// Puts the bytes of a word behind the first `at` bytes of `out`, and answers where they end. They stand there once where there is no star. (The whole output and
+// a place in it: the contract says what stands in front of that place, too.)
 #[tactic(auto, using(crate::proofs::ExpandingLaws::word_once, crate::proofs::ExpandingLaws::word_none, crate::proofs::ExpandingLaws::word_times, crate::proofs::ExpandingLaws::none_long))]
 fn put_word(word: &[u8], out: &mut [u8], at: usize) -> Option<usize>
     requires { at ≤ length out.old }

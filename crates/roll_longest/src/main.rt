@@ -1,4 +1,5 @@
-// The program `roll` again, which the gate runs on a batch of 65,536 bytes, the longest that there may be, with a state of p = 15.
+// The program `roll` again, which the gate runs on a batch of 65,536 bytes, the longest that there may be, with a state of p = 15. A crate
+// of its own, since a program has one input in the gate.
 #![tactic(auto)]
 
 fn main(rt: HostRuntime) {

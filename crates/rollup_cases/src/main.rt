@@ -63,10 +63,7 @@ fn add_fitting(
     if !head.fits_in(memory) {
         return None;
     }
-    let mut fitted = Fitted {
-        head: *head,
-        distinct: false,
-    };
+    let mut fitted = Fitted::from(*head);
     let answer = fitted.add(memory, bytes);
     *head = fitted.head;
     Some(answer)
@@ -92,7 +89,8 @@ fn size(word: &[u8], most: usize) -> usize
     (number(word) as usize).min(most)
 }
 
-// What is only read is lent to the writer as `&`. `write` and `write_fitting` take the memory apart themselves: a closure over what they lend would have six parameters.
+// What is only read is lent to the writer as `&`. Fields behind one reference that are lent in one call, some as `&` and some as `&mut`, the borrow checker does
+// not cover, so the loans stand in front of it. `write` and `write_fitting` take the memory apart themselves: a closure over what they lend would have six parameters.
 fn write(head: Accumulator, memory: &mut Memory, out: &mut [u8]) -> Option<Result<usize, Refusal>>
     ensures { IfSome result (λ written. length_of written ≤ length out.new) }
 {

@@ -1,13 +1,12 @@
-use mathlib.Core.Path.{◌≡◌, refl, sym, ap, subst, ◌∙◌}
+use mathlib.Core.Path.{sym, subst, ◌∙◌}
 use Prim.Native.Nat.{ℕ, ◌<◌}
 use native.Mathlib.Omega.{arith}
 use lib.ListN.{length, length-set}
 use Rattle.std.specs.Prelude.{Option}
-use Rattle.console.specs.declared.input.Pieces.{Pieces}
 use Rattle.console.specs.Input.{PieceOf}
 use Rattle.console.specs.Text.{ListedPost, values_in}
 use Rattle.console.proofs.InputLaws.{drop_next, refused_free}
-use Rattle.console.proofs.TextLaws.{front, values_start, values_full, values_other, values_turn, values_end, value_left}
+use Rattle.console.proofs.TextLaws.{front, values_full, values_other, values_turn, values_end, value_left}
 use Rattle.console.proofs.text.read_values.Goals as goal
 
 pub returns-then-out-n : goal.returns-then-out-n

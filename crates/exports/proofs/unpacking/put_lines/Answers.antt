@@ -13,11 +13,11 @@ loop-record-init c =
 pub put_line-at-requires : goal.put_line-at-requires
 put_line-at-requires c =
     let l = c.loop-record in
-    let gives = subst (λ r. GivesRecord l.record-iterator (Some r) c.next.new.self) c.in_ok-record.was c.in-Some.ensures.steps in
-    lining_room l.invariant.0 c.in_ok-record.field-0.state.now gives.0 (gives.1 ∙ ap (λ b. state_at b c.in_ok-record.field-0.index) l.invariant.1) c.requires.1
+    let gives = subst (λ r. GivesRecord l.record-iterator (Some r) c.next.new.self) c.unwrap.ensures c.in-Some.ensures.steps in
+    lining_room l.invariant.0 c.unwrap.result.state.now gives.0 (gives.1 ∙ ap (λ b. state_at b c.unwrap.result.index) l.invariant.1) c.requires.1
 
 pub loop-record-preserved : goal.loop-record-preserved
 loop-record-preserved c =
     let l = c.loop-record in
-    let gives = subst (λ r. GivesRecord l.record-iterator (Some r) c.next.new.self) c.in_ok-record.was c.in-Some.ensures.steps in
-    (lining_turn l.invariant.0 c.in_ok-record.field-0.state.now gives.0 (gives.1 ∙ ap (λ b. state_at b c.in_ok-record.field-0.index) l.invariant.1) c.put_line-at.ensures, gives.2 ∙ l.invariant.1)
+    let gives = subst (λ r. GivesRecord l.record-iterator (Some r) c.next.new.self) c.unwrap.ensures c.in-Some.ensures.steps in
+    (lining_turn l.invariant.0 c.unwrap.result.state.now gives.0 (gives.1 ∙ ap (λ b. state_at b c.unwrap.result.index) l.invariant.1) c.put_line-at.ensures, gives.2 ∙ l.invariant.1)

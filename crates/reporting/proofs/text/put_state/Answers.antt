@@ -5,7 +5,8 @@ use Rattle.reporting.specs.Numbers.{number_text}
 use native.Mathlib.Omega.{arith}
 use lib.ListN.{length, take}
 use lib.Seq.{length-take-le}
-use Rattle.std.proofs.Common.{◌≡◌, ◌≤◌, Result}
+use Rattle.std.proofs.Common.{◌≡◌, ◌≤◌, Result, to_z, of_z, to_z-of_z, w64}
+use Rattle.std.proofs.Math.Facts.{of_z-to_z}
 use Rattle.wire.proofs.EncodingLaws.{put_same}
 use Rattle.rollup.specs.declared.refusal.Refusal.{Refusal}
 use Rattle.rollup.specs.Refusals.{answer_of, length_of}
@@ -32,8 +33,9 @@ returns-in-Ok-clause-put c =
 
 pub returns-in-Err-clause-put : goal.returns-in-Err-clause-put
 returns-in-Err-clause-put c =
+    let bits : of_z w64 (to_z w64 (of_z w64 c.from.result)) ≡ c.number.result = grind (arith, to_z-of_z, of_z-to_z) in
     put_same
-    (ap (λ (v : ℕ). number_text v 10) c.from.ensures
+    (ap (λ (v : ℕ). number_text v 10) bits
     ∙ state_refused (take 0 c.args.out.now) (λ (z : c.number.result ≡ 0). number_some c.in-Err.e (sym c.number.ensures ∙ z))
     ∙ ap (λ (n : ℕ). state_text n (take 0 c.args.out.now)) c.number.ensures
     ∙ ap (λ (w : Result ℕ Refusal). state_text (answer_of w) (take (length_of w) c.args.out.now)) (sym c.in-Err.is)) c.put_number.ensures.put
