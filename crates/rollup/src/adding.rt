@@ -88,8 +88,8 @@ impl Fitted {
         let x = state_numbers(view, k);
         let path = a.path_of(x, a.kept(memory), k, self.distinct);
         Fitted {
-            distinct: distinct_after(a.form, path, self.distinct),
             head: a.take(x, path, memory, view.data(), k),
+            distinct: distinct_after(a.form, path, self.distinct),
         }
     }
 
