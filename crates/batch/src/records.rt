@@ -36,8 +36,8 @@ pub struct Rolled {
     pub ending: Result<(), Ending>,
 }
 
-// Adds the states in the order of the chain, puts each answer into its cell, and counts the records. An answer is a number, since callers lend bytes for them. The count is
-// told after an error, too, when that of an `enumerate` is gone.
+// Adds the states in the order of the chain, puts each answer into its cell, and counts the records. An answer is a number, since callers lend bytes for them. The count
+// is told after an error, too, when that of an `enumerate` is gone.
 fn add_records(
     batch: &[u8],
     fitted: &mut Fitted,

@@ -1,17 +1,7 @@
 -- The head of a roll-up as ten numbers in a row, for callers in other languages.
-use Rattle.std.specs.Prelude.{Option, Some, None, List, [], ◌∷◌, ◌++◌, Bool, cond, ◌&&◌, ℕ, ◌^◌, ltb, leb, eqb, length, get_or, drop}
-use Rattle.rollup.specs.declared.accumulator.Form.{Form}
-use Rattle.rollup.specs.declared.accumulator.Form.TheVariants.{Unstarted, Sparse, Dense}
+use Rattle.std.specs.Prelude.{Option, Some, None, List, [], ◌∷◌, ◌++◌, Bool, cond, ◌&&◌, ℕ, ◌^◌, ltb, leb, length, get_or, drop}
+use Rattle.rollup.specs.Accumulator.{form_number, form_of}
 use Rattle.rollup.specs.declared.accumulator.Accumulator.{Accumulator}
-
--- Document 01's forms: 0 unstarted, 1 list, 2 dense.
-abbrev pub form_number : Form → ℕ
-form_number Unstarted = 0
-form_number Sparse = 1
-form_number Dense = 2
-
-abbrev pub form_of : ℕ → Form
-form_of n = cond (eqb n 0) Unstarted (cond (eqb n 1) Sparse Dense)
 
 -- Document 01's head in its order: form, type mask, value type, value count, p, s, sparse size, kept count, kept bytes, waiting count.
 abbrev pub row_of : Accumulator → List ℕ
@@ -59,9 +49,6 @@ head_in l =
 unfoldable pub with_head : Accumulator → List ℕ → List ℕ
 with_head a l = row_of a ++ drop 10 l
 
--- What reading a form and a head answers.
-abbrev pub read_form : ℕ → Option Form
-read_form n = cond (leb n 2) (Some (form_of n)) None
-
+-- What reading a head answers.
 abbrev pub read_head : List ℕ → Option Accumulator
 read_head l = cond (is_head l) (Some (head_in l)) None

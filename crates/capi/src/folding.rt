@@ -13,8 +13,8 @@ use rollup::memory::Memory;
 use rollup::refusal;
 use rollup::refusal::Refusal;
 
-// Whether the ends are of states in so many bytes. The loop has no way out, so that it has no branch: a fold of right ends pays little. It is not `is_ascending` of `lists`:
-// that is of 32-bit values, with a contract over `ascends`, and here the last end is compared with the size as well.
+// Whether the ends are of states in so many bytes. The loop has no way out, so that it has no branch: a fold of right ends pays little. It is not `is_ascending` of
+// `lists`: that is of 32-bit values, with a contract over `ascends`, and here the last end is compared with the size as well.
 #[tactic(auto, unfolding(crate::specs::Folds::ends_fit))]
 fn ends_fit(ends: &[u64], size: u64) -> bool
     ensures { result ≡ ends_fit size 0 ends.now }

@@ -1,20 +1,8 @@
 // The head of a roll-up as ten numbers in a row: form, type mask, value type, value count, p, s, sparse size, kept count, kept bytes, waiting count.
 ghost use Rattle.std.specs.Prelude.{◌≡◌, ◌≤◌, length};
-ghost use Rattle.capi.specs.Heads.{read_form, read_head, with_head};
+ghost use Rattle.capi.specs.Heads.{read_head, with_head};
 
 use rollup::accumulator::{Accumulator, Form};
-
-// The form that a number stands for, if it is one: that of `form as u64`, which has no conversion back.
-fn read_form(n: u64) -> Option<Form>
-    ensures { result ≡ read_form n }
-{
-    match n {
-        0 => Some(Form::Unstarted),
-        1 => Some(Form::Sparse),
-        2 => Some(Form::Dense),
-        _ => None,
-    }
-}
 
 // The head that a row of numbers is, if it is one. Numbers behind the ten do not count.
 #[tactic(auto, unfolding(crate::specs::Heads::is_head, crate::specs::Heads::head_in))]
@@ -38,7 +26,7 @@ pub fn read_head(row: &[u64]) -> Option<Accumulator>
         return None;
     };
     Some(Accumulator {
-        form: read_form(form)?,
+        form: Form::try_from(form).ok()?,
         allowed: u8::try_from(allowed).ok()?,
         value_type: u32::try_from(value_type).ok()?,
         num_values,

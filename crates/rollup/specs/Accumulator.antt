@@ -1,5 +1,5 @@
 -- The accumulator (document 01's head) and its lent memory, and what fits (question 1).
-use Rattle.std.specs.Prelude.{ℕ, Option, Some, None, ◌+◌, ◌-◌, ◌*◌, ◌^◌, ◌<◌, Bool, true, false, not, ◌&&◌, ◌||◌, List, length, take, ◌==◌, nat_le, nat_lt}
+use Rattle.std.specs.Prelude.{ℕ, Option, Some, None, ◌+◌, ◌-◌, ◌*◌, ◌^◌, ◌<◌, cond, leb, eqb, Bool, true, false, not, ◌&&◌, ◌||◌, List, length, take, ◌==◌, nat_le, nat_lt}
 use Rattle.lists.specs.Values.{largest_rank}
 use Rattle.lists.specs.Sorting.{ascends}
 use Rattle.lists.specs.Lists.{all_valid, written}
@@ -143,3 +143,16 @@ abbrev pub precisions_of : Form → Accumulator → Option (ℕ × ℕ)
 precisions_of Unstarted a = None
 precisions_of Sparse a = Some (a.precision, a.sparse_precision)
 precisions_of Dense a = Some (a.precision, a.sparse_precision)
+
+-- Document 01's forms: 0 unstarted, 1 list, 2 dense.
+abbrev pub form_number : Form → ℕ
+form_number Unstarted = 0
+form_number Sparse = 1
+form_number Dense = 2
+
+abbrev pub form_of : ℕ → Form
+form_of n = cond (eqb n 0) Unstarted (cond (eqb n 1) Sparse Dense)
+
+-- What reading a form answers.
+abbrev pub read_form : ℕ → Option Form
+read_form n = cond (leb n 2) (Some (form_of n)) None

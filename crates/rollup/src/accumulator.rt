@@ -25,6 +25,29 @@ pub enum Form {
     Dense,
 }
 
+// A number that stands for no form.
+#[derive(Clone, Copy, Debug, PartialEq, Eq)]
+pub struct NoForm;
+
+// The form that a number of document 01 stands for: that of `form as u64`.
+impl TryFrom<u64> for Form {
+    ghost use Rattle.std.specs.Prelude.{◌≡◌, MatchResult, Some, None};
+    ghost use Rattle.rollup.specs.Accumulator.{read_form};
+
+    type Error = NoForm;
+
+    ghost try_from_gives = { λ n r. MatchResult r (λ f. read_form n ≡ Some f) (λ _. read_form n ≡ None) };
+
+    fn try_from(n: u64) -> Result<Form, NoForm> {
+        match n {
+            0 => Ok(Form::Unstarted),
+            1 => Ok(Form::Sparse),
+            2 => Ok(Form::Dense),
+            _ => Err(NoForm),
+        }
+    }
+}
+
 // Document 01's head. A signed number is carried as the unsigned one of the same bits.
 #[derive(Clone, Copy, Debug, Default, PartialEq, Eq)]
 pub struct Accumulator {

@@ -61,8 +61,8 @@ impl Accumulator {
         }
     }
 
-    // The path of k values at any roll-up: one without a list has none. It takes a head and `distinct`, and no `Fitted` of the two: a caller may have a head alone, and would
-    // have to make one.
+    // The path of k values at any roll-up: one without a list has none. It takes a head and `distinct`, and no `Fitted` of the two: a caller may have a head alone,
+    // and would have to make one.
     pub fn path_of(self, x: Incoming, kept: &[u32], k: usize, distinct: bool) -> Option<Path>
         requires { PathPre self x kept.now k distinct }
         ensures { result ≡ path_of self.form self kept.now x k }
