@@ -23,24 +23,12 @@ const CELL: u32 = 2779096485;
 
 // ---- heads
 
-// Any other number is an unstarted head, as a word that is no number is 0: a line `h` is never refused.
-fn form(v: u32) -> Form {
-    match v {
-        1 => Form::Sparse,
-        2 => Form::Dense,
-        _ => Form::Unstarted,
-    }
-}
-
-fn mask(v: u32) -> u8 {
-    u8::try_from(v).unwrap_or(0)
-}
-
 // The head of a line: its ten numbers, those that are signed as the unsigned ones of the same bits.
 fn head_in(line: &[u8]) -> Accumulator {
     Accumulator {
-        form: form(precision(word(line, 1))),
-        allowed: mask(precision(word(line, 2))),
+        // Another number, or none, is an unstarted head: a line `h` is never refused.
+        form: Form::try_from(number(word(line, 1))).unwrap_or_default(),
+        allowed: u8::try_from(number(word(line, 2))).unwrap_or(0),
         value_type: precision(word(line, 3)),
         num_values: number(word(line, 4)),
         precision: precision(word(line, 5)),
