@@ -6,9 +6,9 @@ ghost use Rattle.std.specs.Prelude.{◌≡◌, ◌+◌, ◌<◌, ◌≤◌, true
 ghost use Rattle.lists.specs.Values.{Pair, IndexPost, RankPost, mark, marked, plain_end, marked_end, least_marked_rank, marked_rank_fits, valid, sparse_index, plain_rank, largest_rank, lowered_rank};
 
 // How many low bits of a marked value are its m, and the end of the values of m.
-pub(crate) const M_BITS: u32 = 6;
+pub(crate) const RHOW_BITS: u32 = 6;
 
-pub(crate) const M_END: u32 = 1 << M_BITS;
+pub(crate) const RHOW_END: u32 = 1 << RHOW_BITS;
 
 // A pair of precisions that a list can have, with the mark that goes with it.
 #[derive(Clone, Copy, Debug, PartialEq, Eq)]
@@ -30,7 +30,7 @@ impl Sparse {
         Sparse {
             normal_precision,
             sparse_precision,
-            rho_encoded_flag: 1 << sparse_precision.max(normal_precision + M_BITS),
+            rho_encoded_flag: 1 << sparse_precision.max(normal_precision + RHOW_BITS),
         }
     }
 
@@ -63,7 +63,7 @@ impl Sparse {
     pub(crate) fn marked_end(self) -> u32
         ensures { result ≡ marked_end self.normal_precision self.sparse_precision }
     {
-        self.rho_encoded_flag + (M_END << self.normal_precision)
+        self.rho_encoded_flag + (RHOW_END << self.normal_precision)
     }
 
     // Whether the low six bits of a marked value are those of a rank, from the least to 65 - s, by one comparison: one less than the least wraps to 63.
@@ -73,7 +73,7 @@ impl Sparse {
         ensures { result ≡ marked_rank_fits self.normal_precision self.sparse_precision v }
     {
         let least = self.least_marked_rank();
-        (v - least) % M_END <= 65 - self.sparse_precision - least
+        (v - least) % RHOW_END <= 65 - self.sparse_precision - least
     }
 
     // Whether a list of this pair may have a value.
@@ -95,7 +95,8 @@ impl Sparse {
         ensures { result ≡ sparse_index self.normal_precision self.sparse_precision v }
     {
         if self.is_rho_encoded(v) {
-            ((v - self.rho_encoded_flag) / M_END) << (self.sparse_precision - self.normal_precision)
+            ((v - self.rho_encoded_flag) / RHOW_END)
+                << (self.sparse_precision - self.normal_precision)
         } else {
             v
         }
@@ -107,7 +108,7 @@ impl Sparse {
         ensures { IndexPost self.normal_precision self.sparse_precision v result }
     {
         if self.is_rho_encoded(v) {
-            (v - self.rho_encoded_flag) / M_END
+            (v - self.rho_encoded_flag) / RHOW_END
         } else {
             v >> (self.sparse_precision - self.normal_precision)
         }
@@ -120,7 +121,7 @@ impl Sparse {
     {
         let bits = self.sparse_precision - self.normal_precision;
         if self.is_rho_encoded(v) {
-            (v % M_END + bits) as u8
+            (v % RHOW_END + bits) as u8
         } else {
             compute_rho_w(v, bits)
         }

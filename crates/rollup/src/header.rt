@@ -16,11 +16,11 @@ pub(crate) const HYPERLOGLOG_PLUS_UNIQUE: u32 = 112;
 
 pub(crate) const ENCODING_VERSION: u32 = 2;
 
-const MIN_PRECISION: u32 = 4;
+const MINIMUM_PRECISION: u32 = 4;
 
-const MAX_PRECISION: u32 = 24;
+const MAXIMUM_PRECISION: u32 = 24;
 
-const MAX_SPARSE_PRECISION: u32 = 25;
+const MAXIMUM_SPARSE_PRECISION: u32 = 25;
 
 const VALUE_TYPE_UNKNOWN: u32 = 0;
 
@@ -63,13 +63,13 @@ pub fn allowed_types(value_type: u32) -> u8
 pub(crate) fn check_normal_precision(p: u32) -> bool
     ensures { result ≡ normal_range p }
 {
-    (MIN_PRECISION..=MAX_PRECISION).contains(&p)
+    (MINIMUM_PRECISION..=MAXIMUM_PRECISION).contains(&p)
 }
 
 pub(crate) fn check_sparse_precision(p: u32, s: u32) -> bool
     ensures { result ≡ sparse_range p s }
 {
-    (p..=MAX_SPARSE_PRECISION).contains(&s)
+    (p..=MAXIMUM_SPARSE_PRECISION).contains(&s)
 }
 
 // Whether field 5 has bytes.

@@ -9,7 +9,7 @@ use crate::fitting;
 use crate::incoming::Incoming;
 
 // How many values are inserted at most, and how many are to be kept already for each of them.
-const MAX_INSERTED: usize = 16;
+const MAX_INSERT: usize = 16;
 
 const KEPT_FOR_EACH: usize = 16;
 
@@ -38,7 +38,7 @@ impl Accumulator {
         requires { InsertsPre self kept.now distinct }
         ensures { result ≡ inserts self kept.now k }
     {
-        k <= MAX_INSERTED
+        k <= MAX_INSERT
             && KEPT_FOR_EACH * k <= self.sparse_len
             && (distinct || self.encoding().has_distinct_slots(kept))
     }
