@@ -49,6 +49,7 @@ fn fold_states(
 {
     let mut fitted = Fitted::from(a);
     let mut start = 0;
+    // Each answer by its place, and not over `answers.iter_mut()` beside the ends: behind an adapter no contract says what it leaves.
     for (i, &end) in ends.iter().enumerate() {
         let end = end as usize;
         answers[i] = refusal::answer_of(fitted.add(memory, &bytes[start..end]));
@@ -57,9 +58,9 @@ fn fold_states(
     fitted.head
 }
 
-// Question 1, once, and then the states. The answer is to that question; each state has its own. The memory is put together here, in the function that has
-// the loop, so that LLVM has its slices in hand: those of a struct behind a reference are read again in each turn, and with a `Memory` lent to it a list of one value
-// took 1.13 to 1.19 times as long. An answer is a number, since callers lend bytes for them.
+// Question 1, once, and then the states. The answer is to that question; each state has its own. The memory is put together here, in front
+// of the loop, so that LLVM has its slices in hand: those of a struct behind a reference are read again in each turn, and with a `Memory` lent to this function a list of
+// one value took 1.13 to 1.19 times as long. An answer is a number, since callers lend bytes for them.
 pub(crate) fn fold(
     head: &mut Accumulator,
     registers: &mut [u8],

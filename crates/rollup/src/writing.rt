@@ -73,7 +73,8 @@ impl Accumulator {
         Ok(total)
     }
 
-    // 17, and then the list: what is kept as it is where nothing waits, else all values as one list. Registers are not looked at.
+    // 17, and then the list: what is kept as it is where nothing waits, else all values as one list. Registers are not looked at. (Slices one by one, as in `write`
+    // below.)
     fn write_list(
         self,
         sparse: &[u32],

@@ -55,7 +55,7 @@ fn compact_hll_field(
     Some((h, next))
 }
 
-// The nested message, which is a part of the state's bytes that starts at `base`.
+// The nested message, which is a part of the state's bytes that starts at `base`. (Why this loop and those of `parse_compact` and state.rt stay four: see `parse_hll`.)
 fn compact_hll(m: &[u8], base: usize, earlier: HllFields) -> Option<HllFields>
     requires { base + length m.now < 2 ^ 64 }
     ensures { CompactHllPost m.now base earlier result }
@@ -103,7 +103,7 @@ fn compact_field(s: &[u8], c: Cursor, mut f: Fields) -> Option<(Fields, Cursor)>
     Some((f, next))
 }
 
-// For `parse` alone, which answers for every state: how many this one leaves to the general reader is a matter of speed.
+// For `parse` alone, which answers for every state: how many this one leaves to the general reader is a matter of speed. (Its loop: see `compact_hll`.)
 pub(crate) fn parse_compact(s: &[u8]) -> Option<Fields>
     ensures { CompactPost s.now result }
 {

@@ -17,7 +17,8 @@ pub struct StateView<'a> {
     pub fields: Fields,
 }
 
-// The bytes of a data field, as the part of the state's bytes that holds it, and none where it is absent.
+// The bytes of a data field, as the part of the state's bytes that holds it, and none where it is absent. (A flag beside a `Part`, as `HllFields` has them, and no
+// `Option`: see `data`.)
 fn part_bytes(bytes: &[u8], present: bool, p: Part) -> &[u8]
     ensures { result.now ≡ bytes_or_none (part_of bytes.now present p) }
 {
