@@ -1,5 +1,5 @@
 // The memory that a roll-up is lent. New: the Rust's accumulator has `Vec`s of its own, and here there is no heap.
-ghost use Rattle.std.specs.Prelude.{◌≡◌, ◌+◌, ◌≤◌, ◌++◌, length, take};
+ghost use Rattle.std.specs.Prelude.{◌≡◌, ◌+◌, ◌≤◌, ◌++◌, length, take, drop};
 
 // Its slices may have any lengths: a call that needs more than is there is refused (17). Where a part of one is lent beside another, or one as `&`, it is taken out
 // of the struct first, as in `let (sparse, scratch) = (&mut *memory.sparse, &mut *memory.scratch);`: the borrow checker does not cover
@@ -15,10 +15,11 @@ pub struct Memory<'a> {
     pub scratch: &'a mut [u32],
 }
 
-// The values go behind the first n of `list`.
+// The values go behind the first n of `list`, and what stands behind them stays.
 pub(crate) fn append(list: &mut [u32], n: usize, values: &[u32])
     requires { n + length values.now ≤ length list.old }
-    ensures { take (n + length values.now) list.new ≡ take n list.old ++ values.now }
+    ensures front { take (n + length values.now) list.new ≡ take n list.old ++ values.now }
+    ensures rest { drop (n + length values.now) list.new ≡ drop (n + length values.now) list.old }
 {
     list[n..n + values.len()].copy_from_slice(values);
 }

@@ -21,5 +21,5 @@ returns-then-not-is_empty-clause-shows c =
 pub returns-clause-shows : goal.returns-clause-shows
 returns-clause-shows c =
     let x = c.args.x in
-    start_list_lem c.requires c.args.memory.now.pending.now (eqb-true _ _ (sym c.is_empty.ensures ∙ c.if-not-is_empty.false)) c.append.ensures
+    start_list_lem c.requires c.args.memory.now.pending.now (eqb-true _ _ (sym c.is_empty.ensures ∙ c.if-not-is_empty.false)) c.append.ensures.front
     (ap (λ (f : Accumulator). head_with Sparse x.mask x.value_type x.num_values x.precision x.sparse_precision x.sparse_size c.args.k x.list_bytes f.pending_len) c.new.ensures)
