@@ -11,7 +11,7 @@ ghost use Rattle.lists_cases.specs.Tests.{Mergeable, Insertable};
 use console::input::{read_bytes, read_cases};
 use console::memory::filled;
 use console::show::{FILL, Hex, List, Replayed, Touched, print_line, replay};
-use console::text::{read_list, read_value, word};
+use console::text::{precision, read_list, read_value, word};
 use lists::merging::Merged;
 use lists::values::Sparse;
 use std::io;
@@ -204,7 +204,7 @@ fn max_case(rt: &impl Print, line: &[u8]) -> Replayed {
     let mut target: [u8; 4096] = filled(0);
     let m = read_bytes(word(line, 4), &mut target)?;
     let (source, target) = (&source[..n], &mut target[..m]);
-    let (p, q) = (read_value(word(line, 1))?, read_value(word(line, 2))?);
+    let (p, q) = (precision(word(line, 1)), precision(word(line, 2)));
     if p < q || !tests::holds(q, &target[..]) || !lowers(p, p - q, source) {
         return None;
     }
@@ -221,7 +221,7 @@ fn lower_case(rt: &impl Print, line: &[u8]) -> Replayed {
     let mut registers: [u8; 4096] = filled(0);
     let n = read_bytes(word(line, 3), &mut registers)?;
     let registers = &mut registers[..n];
-    let (p, q) = (read_value(word(line, 1))?, read_value(word(line, 2))?);
+    let (p, q) = (precision(word(line, 1)), precision(word(line, 2)));
     if p < q || !lowers(p, p - q, &registers[..]) {
         return None;
     }

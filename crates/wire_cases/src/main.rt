@@ -92,13 +92,13 @@ fn with_number<F: Fn(usize, &[u8]) -> Replayed + Drop>(operands: &[u8], case: F)
 
 // A line: a letter, and behind a blank its operands.
 fn case(rt: &impl Print, line: &[u8]) -> Replayed {
-    let (_, operands) = cut(line, b' ');
+    let operands = line.get(2..).unwrap_or(&[]);
     match *line.first()? {
         b'#' => Some(print_line(rt, line)),
         b'p' => with_bytes(operands, |bytes| parse_case(rt, bytes)),
         b'v' => with_number(operands, |at, bytes| varint_case(rt, at, bytes)),
-        b'w' => read_number(word(line, 1)).map(|v| put_case(rt, v)),
-        b'l' => read_value(word(line, 1)).map(|v| println!(rt; "{}", wire::varint::varint_len(v))),
+        b'w' => read_number(word(operands, 0)).map(|v| put_case(rt, v)),
+        b'l' => read_value(word(operands, 0)).map(|v| println!(rt; "{}", wire::varint::varint_len(v))),
         b'e' => with_number(operands, |size, bytes| encode_case(rt, size, bytes)),
         _ => None,
     }
