@@ -90,16 +90,16 @@ fn with_number<F: Fn(usize, &[u8]) -> Replayed + Drop>(operands: &[u8], case: F)
     with_bytes(bytes, |bytes| case(v, bytes))
 }
 
-// A line: a letter, and behind a blank its operands.
+// A line: a letter, a blank and its operands. (The second byte is not looked at.)
 fn case(rt: &impl Print, line: &[u8]) -> Replayed {
-    let operands = line.get(2..).unwrap_or(&[]);
+    let rest = line.get(2..).unwrap_or(&[]);
     match *line.first()? {
         b'#' => Some(print_line(rt, line)),
-        b'p' => with_bytes(operands, |bytes| parse_case(rt, bytes)),
-        b'v' => with_number(operands, |at, bytes| varint_case(rt, at, bytes)),
-        b'w' => read_number(word(operands, 0)).map(|v| put_case(rt, v)),
-        b'l' => read_value(word(operands, 0)).map(|v| println!(rt; "{}", wire::varint::varint_len(v))),
-        b'e' => with_number(operands, |size, bytes| encode_case(rt, size, bytes)),
+        b'p' => with_bytes(rest, |bytes| parse_case(rt, bytes)),
+        b'v' => with_number(rest, |at, bytes| varint_case(rt, at, bytes)),
+        b'w' => read_number(word(rest, 0)).map(|v| put_case(rt, v)),
+        b'l' => read_value(word(rest, 0)).map(|v| println!(rt; "{}", wire::varint::varint_len(v))),
+        b'e' => with_number(rest, |size, bytes| encode_case(rt, size, bytes)),
         _ => None,
     }
 }
