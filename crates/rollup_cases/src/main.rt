@@ -170,14 +170,7 @@ fn calls<'a>(rt: &impl Print, text: &'a [u8], memory: &mut Memory) -> &'a [u8]
 }
 
 // The same with memory of these sizes.
-fn lend<'a>(
-    rt: &impl Print,
-    text: &'a [u8],
-    r: usize,
-    k: usize,
-    w: usize,
-    s: usize,
-) -> &'a [u8]
+fn lend<'a>(rt: &impl Print, text: &'a [u8], r: usize, k: usize, w: usize, s: usize) -> &'a [u8]
     requires { (r ≤ 16384) × (k ≤ 8192) × (w ≤ 8192) × (s ≤ 8192) }
     ensures { length result.now ≤ length text.now }
 {
