@@ -1,4 +1,4 @@
-// Making the text of an answer in a buffer, and writing it. It is made so, and not by `fmt` as the texts of `show`, where a contract says which text it is. No
+// Making the text of an answer in a buffer, and writing it. It is made so, and not by `fmt` as most texts of `show`, where a contract says which text it is. No
 // contract can say what is written.
 ghost use Rattle.std.specs.Prelude.{◌≡◌, ◌*◌, ◌≤◌, ◌<◌, length};
 ghost use Rattle.std.specs.Counts.{IsPrefixLen};

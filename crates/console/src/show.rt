@@ -1,4 +1,5 @@
-// What the programs that replay cases print, by `fmt`. A contract speaks of the text of `Hex` alone.
+// What the programs that replay cases print, mostly by `fmt`. Of this a contract says the text of `Hex` alone. `print_hex` writes what `hex` makes, of which one says the
+// text, too.
 ghost use Rattle.std.specs.Prelude.{◌≡◌, ◌*◌, ◌≤◌, Some, length};
 ghost use Rattle.console.specs.Output.{hex_text};
 
@@ -11,7 +12,7 @@ use std::{fmt, io, str};
 #[derive(Clone, Copy)]
 pub struct Hex<'a>(pub &'a [u8]);
 
-// The digits of some bytes as a text, put into the memory that is lent.
+// The digits of some bytes as a text, put into the memory that is lent. A function of its own, since of a parameter the check knows that each byte is below 256.
 fn spelled<'a>(bytes: &[u8], digits: &'a mut [u8]) -> &'a str
     requires { 2 * length bytes.now ≤ length digits.old }
     ensures { result.now ≡ hex_text bytes.now }
@@ -36,7 +37,8 @@ impl fmt::Display for Hex<'_> {
     }
 }
 
-// The same of bytes that may be many. Not by `Hex`: what is printed by `fmt` is put into a buffer byte by byte, which takes four times as long.
+// The same of bytes that may be many, as `hex` makes them. Not by `Hex`: what is printed by `fmt` is put into a buffer byte by byte, which takes several times as
+// long. A write that fails leaves the output short, which a comparison shows.
 pub fn print_hex(rt: &impl Print, bytes: &[u8]) {
     let mut digits = [0u8; 4096];
     for chunk in bytes.chunks(2048) {
@@ -78,7 +80,7 @@ impl fmt::Display for Touched<'_> {
     }
 }
 
-// Bytes as they are, and a newline: what is printed of a remark. It cannot fail: a write that fails leaves the output short, which a comparison shows.
+// Bytes as they are, and a newline: what is printed of a remark. It cannot fail, as `print_hex`.
 pub fn print_line(rt: &impl Print, line: &[u8]) {
     let _ = rt.write_all(line);
     let _ = println!(rt; "");
@@ -87,7 +89,7 @@ pub fn print_line(rt: &impl Print, line: &[u8]) {
 // What a case came to: `None` where the text is no case, since it has not the operands that it should have; else whether what it printed was written.
 pub type Replayed = Option<io::Result<()>>;
 
-// What is printed of a text that is no case. It cannot fail, as `print_line`.
+// What is printed of a text that is no case. It cannot fail, either.
 pub fn bad_case(rt: &impl Print) {
     let _ = println!(rt; "bad case");
 }
