@@ -1,6 +1,6 @@
 -- The chain of a batch: what its records say of the bytes, what is left of it after each, and a walk over all of them. One law for the start, one for a turn, and
 -- one for each way that a walk ends.
-use Prim.Native.Nat.{ℕ, zero, suc, ◌+◌, ◌<◌, ◌≤◌}
+use Prim.Native.Nat.{ℕ, zero, suc, ◌+◌, ◌-◌, ◌<◌, ◌≤◌}
 use mathlib.Core.Path.{◌≡◌, refl, sym, ap, ◌∙◌}
 use mathlib.Core.List.{List, [], ◌∷◌, ◌++◌, append_assoc, append-nil}
 use mathlib.Core.Bool.{Bool, true, false, cond, ◌&&◌}
@@ -8,7 +8,7 @@ use native.Mathlib.Omega.{arith}
 use lib.Dec.{ltb, leb, eqb}
 use lib.ListN.{length, drop, set, length-append}
 use lib.Seq.{drop-set-lt, drop-drop}
-use borrow.Author.Tests.{leb-true, ltb-true, eq-eqb, ne_eqb}
+use borrow.Author.Tests.{leb-true, leb-false, ltb-true, lt-ltb, le-leb, lt-leb, eq-eqb, ne_eqb}
 use Rattle.std.specs.Prelude.{⊤, Result, Ok, Err}
 use Rattle.wire.proofs.BoolLaws.{both_true, either}
 use Rattle.batch.specs.declared.chain.ChainError.{ChainError}
@@ -33,6 +33,25 @@ record_inside b before i e =
       above = ltb-true before i y.1;
       inside = leb-true (i + 8 + length_at b i) (length b) x.1;
     }
+
+-- The last test of an index with differences for sums, where the others were passed.
+pub record_tested : (b : List ℕ) (before i n : ℕ) → 4 ≤ i → before < i → 8 ≤ length b → i ≤ length b - 8 → n ≡ length_at b i
+    → leb n (length b - 8 - i) ≡ is_record b before i
+unfolding is_record
+record_tested b before i n low above eight within e =
+    ap (λ (k : ℕ). leb k (length b - 8 - i)) e
+    ∙ go (leb (length_at b i) (length b - 8 - i)) refl
+    ∙ sym
+    (ap (λ (t : Bool). t && ltb before i && leb (i + 8 + length_at b i) (length b)) (le-leb 4 i low)
+    ∙ ap (λ (t : Bool). t && leb (i + 8 + length_at b i) (length b)) (lt-ltb before i above))
+  where
+    go : (t : Bool) → leb (length_at b i) (length b - 8 - i) ≡ t → leb (length_at b i) (length b - 8 - i) ≡ leb (i + 8 + length_at b i) (length b)
+    go true f =
+        let h = leb-true (length_at b i) (length b - 8 - i) f in
+        f ∙ sym (le-leb (i + 8 + length_at b i) (length b) (let g : i + 8 + length_at b i ≤ length b = omega arith in g))
+    go false f =
+        let h = leb-false (length_at b i) (length b - 8 - i) f in
+        f ∙ sym (lt-leb (i + 8 + length_at b i) (length b) (let g : length b < i + 8 + length_at b i = omega arith in g))
 
 pub batch_size : (b : List ℕ) → is_batch b ≡ true → (4 ≤ length b) × (length b ≤ 65536)
 batch_size b e =

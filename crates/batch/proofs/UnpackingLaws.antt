@@ -1,11 +1,12 @@
 -- Walking a batch: the indices so far, and what is left of the chain, are the chain's. One law for a turn, and one for each way that the walk ends; and the state
 -- of a record.
-use Prim.Native.Nat.{ℕ, suc, ◌+◌, ◌<◌, ◌≤◌}
+use Prim.Native.Nat.{ℕ, suc, ◌+◌, ◌-◌, ◌<◌, ◌≤◌}
 use mathlib.Core.Path.{◌≡◌, sym, ap, ◌∙◌, subst}
 use mathlib.Core.List.{List, [], ◌∷◌, ◌++◌}
 use native.Mathlib.Omega.{arith}
-use lib.ListN.{length, take, drop, set, length-set, length-take, length-drop}
-use lib.Seq.{take-suc-set, length-take-le}
+use lib.ListN.{length, take, drop, set, length-set, length-take, length-drop, drop_of_length-le}
+use lib.Seq.{take-suc-set, length-take-le, take-nil, take_all}
+use Rattle.lists.proofs.MergingLaws.{rest_all}
 use Rattle.std.specs.Prelude.{⊤, Result}
 use Rattle.batch.specs.declared.chain.ChainError.{ChainError}
 use Rattle.batch.specs.Chain.{length_at, state_at, Chain, ends, onto}
@@ -45,6 +46,15 @@ module _ {batch old : List ℕ} {rest : Chain} {k : ℕ} {indices : List ℕ} (g
       }
 
 -- ---- a state
+
+-- Past the batch there is none.
+pub state_none : (b : List ℕ) (at : ℕ) → length b ≤ at + 8 → take 0 b ≡ state_at b at
+state_none b at h = sym (ap (take (length_at b at)) (drop_of_length-le b h) ∙ take-nil (length_at b at))
+
+-- One of a length past the end is the rest of the batch.
+pub state_cut : (b : List ℕ) (at n : ℕ) → length b - (at + 8) < n → n ≡ length_at b at → take (length b - (at + 8)) (drop (at + 8) b) ≡ state_at b at
+state_cut b at n h e =
+    rest_all b (at + 8) ∙ sym (take_all (length_at b at) (drop (at + 8) b) (omega (arith, length-drop (at + 8) b)))
 
 pub state_short : (b s : List ℕ) (at : ℕ) → s ≡ state_at b at → length s ≤ length b
 state_short b s at e =

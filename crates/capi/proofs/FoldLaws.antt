@@ -8,6 +8,7 @@ use lib.Dec.{leb}
 use lib.ListN.{length, get_or, take, drop, set, length-set, length-append, drop_of_length-le}
 use lib.Seq.{take_all, take-suc-set, drop-cons, drop-set-lt, drop-drop, length-take-le}
 use borrow.Author.Tests.{le-leb, leb-true}
+use Rattle.std.proofs.lemmas.Bool.{false_from_ne_true, true_from_ne_false}
 use Rattle.wire.proofs.BoolLaws.{both, both_true}
 use Rattle.rollup.specs.declared.accumulator.Accumulator.{Accumulator}
 use Rattle.rollup.specs.Accumulator.{Mem, fits}
@@ -172,6 +173,19 @@ unfolding FoldGoesOn
 fold_goes_on a m room bytes ends answers r n left post first calls run =
     subst (λ (c : List Call). Run first c r n) (sym (added_after room (splits bytes 0 ends) left calls)) (steps_after run post.steps)
 
+-- ---- what the answer says of question 1
+
+module _ {a : Accumulator} {m : Mem} {room : ℕ} {bytes ends answers : List ℕ} {answer : ℕ} {r : Accumulator} {n : Mem} {left : List ℕ}
+    (post : FoldPost a m room bytes ends answers answer r n left) where
+  asked : (t : Bool) → fits a m ≡ t → answer ≡ cond t 0 1
+  asked t e = post.answer_is ∙ ap (λ (b : Bool). cond b 0 1) e
+
+  pub was_fit : answer ≡ 0 → fits a m ≡ true
+  was_fit z = true_from_ne_false (fits a m) (λ (e : fits a m ≡ false). let y : ⊥ = omega (arith, asked false e) in y)
+
+  pub was_unfit : (answer ≡ 0 → ⊥) → fits a m ≡ false
+  was_unfit z = false_from_ne_true (fits a m) (λ (e : fits a m ≡ true). z (asked true e))
+
 -- ---- one state
 
 -- Its end is that of the bytes, and it has one cell.
@@ -191,25 +205,14 @@ one_added room bytes (k ∷ left) e = refl
 
 module _ {a : Accumulator} {m : Mem} {room : ℕ} {bytes : List ℕ} {cell answer : ℕ} {r : Accumulator} {n : Mem} {left : List ℕ}
     (post : FoldPost a m room bytes (length bytes ∷ []) (cell ∷ []) answer r n left) where
-  -- What the answer says of question 1.
-  asked : (t : Bool) → fits a m ≡ t → answer ≡ cond t 0 1
-  asked t e = post.answer_is ∙ ap (λ (b : Bool). cond b 0 1) e
-
   pub one_state : answer ≡ 0 → AddPost a m room bytes (get_or left 0 0) r n
-  one_state z = go (fits a m) refl
-    where
-      go : (t : Bool) → fits a m ≡ t → AddPost a m room bytes (get_or left 0 0) r n
-      go true e =
-          let folded = post.folded e in
-          subst (λ (s : List ℕ). AddPost a m room s (get_or left 0 0) r n) (take_all (length bytes - 0) bytes (omega arith))
-          (one_call (subst (λ (c : List Call). Steps a m c r n) (one_added room bytes left folded.cells) folded.steps))
-      go false e = absurd (let y : ⊥ = omega (arith, asked false e) in y)
+  one_state z =
+      let folded = post.folded (was_fit post z) in
+      subst (λ (s : List ℕ). AddPost a m room s (get_or left 0 0) r n) (take_all (length bytes - 0) bytes (omega arith))
+      (one_call (subst (λ (c : List Call). Steps a m c r n) (one_added room bytes left folded.cells) folded.steps))
 
   pub one_refused : (answer ≡ 0 → ⊥) → AddPost a m room bytes answer r n
-  one_refused z = go (fits a m) refl
-    where
-      go : (t : Bool) → fits a m ≡ t → AddPost a m room bytes answer r n
-      go true e = absurd (z (asked true e))
-      go false e =
-          let same = post.refused e in
-          rw (asked false e, same.0, same.1) (refused_post a m room bytes 1 (add_unfit a m room bytes e))
+  one_refused z =
+      let unfit = was_unfit post z in
+      let same = post.refused unfit in
+      rw (asked post false unfit, same.0, same.1) (refused_post a m room bytes 1 (add_unfit a m room bytes unfit))

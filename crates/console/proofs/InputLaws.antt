@@ -25,15 +25,15 @@ use Rattle.console.specs.Input.{Stream, so_far, reading_of, ArrivedIn, StreamPos
 
 -- ---- a position
 
-up_to_nil : (b : ℕ) → up_to b [] ≡ 0
+pub up_to_nil : (b : ℕ) → up_to b [] ≡ 0
 unfolding up_to
 up_to_nil b = refl
 
-up_to_hit : (b x : ℕ) (l : List ℕ) → x ≡ b → up_to b (x ∷ l) ≡ 0
+pub up_to_hit : (b x : ℕ) (l : List ℕ) → x ≡ b → up_to b (x ∷ l) ≡ 0
 unfolding up_to
 up_to_hit b x l e = rw (eq-eqb x b e)
 
-up_to_miss : (b x : ℕ) (l : List ℕ) → x ≢ b → up_to b (x ∷ l) ≡ up_to b l + 1
+pub up_to_miss : (b x : ℕ) (l : List ℕ) → x ≢ b → up_to b (x ∷ l) ≡ up_to b l + 1
 unfolding up_to
 up_to_miss b x l n = rw (ne_eqb x b n) (omega arith)
 
@@ -141,7 +141,7 @@ module _ (value : ℕ → Option ℕ) (pair rest : List ℕ) {left : List ℕ} (
       ap (onto (take i out)) (byte_first ∙ ap₂ (λ (m n : Option ℕ). byte_then m n (pairs_of value rest)) (sym ea) (sym eb))
       ∙ onto_stored out i (a * 16 + b) room (pairs_of value rest)
 
-pairs_end : (value : ℕ → Option ℕ) (rest done : List ℕ) → length rest ≡ 0 → onto done (pairs_of value rest) ≡ Some done
+pub pairs_end : (value : ℕ → Option ℕ) (rest done : List ℕ) → length rest ≡ 0 → onto done (pairs_of value rest) ≡ Some done
 unfolding pairs_of
 pairs_end value [] done h = ap Some (append-nil done)
 pairs_end value (b ∷ rest) done h = let z : ⊥ = omega arith in absurd z

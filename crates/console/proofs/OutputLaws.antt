@@ -1,13 +1,19 @@
 -- Laws of what a program says, and of hexadecimal.
 use mathlib.Core.Path.{◌≡◌, refl, sym, ap, ap₂, ◌∙◌, subst}
 use mathlib.Core.List.{List, [], ◌∷◌, ◌++◌, append_assoc, append-nil}
+use mathlib.Core.Logic.{⊎_elim}
 use Prim.Native.Nat.{ℕ, suc, ◌+◌, ◌*◌, ◌/◌, ◌%◌, ◌<◌, ◌≤◌}
 use native.Mathlib.Numerals.{add-one}
 use native.Mathlib.Omega.{arith}
 use lib.ListN.{length, set, drop, take, get_or, drop_of_length-le, length-drop, length-set, take-append-drop}
 use lib.Seq.{drop-cons, drop-drop, take-suc-set, drop-set-lt, sets, sets-eq, length-sets, take_at, drop_at, drop-append-le, length-take-le}
+use borrow.Author.Tests.{lt-ltb, le-ltb}
 use borrow.Rule.Slice.PartMut.{mid_of, post_of, put_mid}
 use Rattle.std.specs.Counts.{IsPrefixLen}
+use Rattle.std.specs.Str.{IsAscii, IsUtf8}
+use Rattle.std.proofs.lemmas.Bool.{cases_lt as side}
+use Rattle.std.proofs.lemmas.Str.{IsUtf8-from_ascii}
+use Rattle.std.proofs.lemmas.Str.Ascii.{IsAscii-nil, IsAscii-cons}
 use Rattle.console.specs.declared.output.Said.TheVariants.{Out, Err}
 use Rattle.console.specs.Output.{out as to_output, err as to_error, SaidPost, hex_digit_ascii, hex_text, HexPost}
 
@@ -123,7 +129,30 @@ spelling_end bytes before out i e room w =
     fits : 2 * i ≤ length out
     fits = omega (arith, w.size)
 
--- ---- for callers: how long it is, and a line of it
+-- ---- for callers: that it is made by pieces, and is a text; how long it is, and a line of it
+
+pub hex_append : (a b : List ℕ) → hex_text (a ++ b) ≡ hex_text a ++ hex_text b
+unfolding hex_text
+hex_append [] b = refl
+hex_append (x ∷ a) b = ap (λ (l : List ℕ). hex_digit_ascii (x / 16) ∷ hex_digit_ascii (x % 16) ∷ l) (hex_append a b)
+
+glyph_ascii : (d : ℕ) → d < 16 → hex_digit_ascii d < 128
+glyph_ascii d h =
+    ⊎_elim
+    (λ (l : d < 10). rw (lt-ltb d 10 l) (omega arith))
+    (λ (l : 10 ≤ d). rw (le-ltb d 10 l) (omega arith))
+    (side d 10)
+
+hex_ascii : (l : List ℕ) → ((i : ℕ) → get_or l i 0 < 256) → IsAscii (hex_text l)
+unfolding hex_text
+hex_ascii [] h = IsAscii-nil
+hex_ascii (b ∷ l) h =
+    let b256 : b < 256 = h 0 in
+    IsAscii-cons (hex_digit_ascii (b / 16)) (hex_digit_ascii (b % 16) ∷ hex_text l) (glyph_ascii (b / 16) (omega arith))
+    (IsAscii-cons (hex_digit_ascii (b % 16)) (hex_text l) (glyph_ascii (b % 16) (omega arith)) (hex_ascii l (λ (i : ℕ). h (suc i))))
+
+pub hex_utf8 : {bytes out after : List ℕ} {k : ℕ} → HexPost bytes out k after → ((i : ℕ) → get_or bytes i 0 < 256) → IsUtf8 (take k after)
+hex_utf8 {bytes} p h = subst IsUtf8 (sym p.text) (IsUtf8-from_ascii (hex_text bytes) (hex_ascii bytes h))
 
 pub hex_length : (bytes : List ℕ) → length (hex_text bytes) ≡ 2 * length bytes
 unfolding hex_text

@@ -10,11 +10,11 @@ use Rattle.console.specs.Input.{digit_of, byte_then, pairs_of}
 use Rattle.console.specs.Output.{hex_digit_ascii, hex_text}
 use Rattle.std.proofs.lemmas.Bool.{cases_lt as side}
 
-digit_figure : (b d : ℕ) → b ≡ 48 + d → d < 10 → digit_of b ≡ Some d
+pub digit_figure : (b d : ℕ) → b ≡ 48 + d → d < 10 → digit_of b ≡ Some d
 unfolding digit_of
 digit_figure b d e h = rw (le-ltb b 48 (omega arith), lt-ltb b 58 (omega arith)) (ap Some (omega arith))
 
-digit_letter : (b d : ℕ) → b ≡ 87 + d → 10 ≤ d → d < 16 → digit_of b ≡ Some d
+pub digit_letter : (b d : ℕ) → b ≡ 87 + d → 10 ≤ d → d < 16 → digit_of b ≡ Some d
 unfolding digit_of
 digit_letter b d e l h =
     rw (le-ltb b 48 (omega arith), le-ltb b 58 (omega arith), le-ltb b 97 (omega arith), lt-ltb b 103 (omega arith)) (ap Some (omega arith))

@@ -76,7 +76,7 @@ pub fn read_cases(
     match read_all(stdin, buf).stream {
         Ok(n) => n,
         Err(_) => {
-            let _ = complain(
+            complain(
                 stderr,
                 program,
                 b": standard input cannot be read, or is too long\n",

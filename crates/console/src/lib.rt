@@ -1,5 +1,5 @@
 // What the programs share. `input` reads a stream: lines, words, numbers and byte strings. `output` makes the
-// text of an answer in a buffer, and writes it, and `show` has what is printed by `fmt`. `text` has the words of a line and lists of numbers, and
+// text of an answer in a buffer, and writes it, and `show` has what is printed mostly by `fmt`. `text` has the words of a line and lists of numbers, and
 // `memory` the memory that programs lend.
 #![tactic(auto)]
 

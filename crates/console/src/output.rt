@@ -1,10 +1,9 @@
-// Making the text of an answer in a buffer, and writing it. It is made so, and not by `fmt` as the texts of `show`, where a contract says which text it is. No
+// Making the text of an answer in a buffer, and writing it. It is made so, and not by `fmt` as most texts of `show`, where a contract says which text it is. No
 // contract can say what is written.
 ghost use Rattle.std.specs.Prelude.{◌≡◌, ◌*◌, ◌≤◌, ◌<◌, length};
 ghost use Rattle.std.specs.Counts.{IsPrefixLen};
 ghost use Rattle.console.specs.Output.{size_of, all_are, hex_digit_ascii, HexPost};
 
-use std::io;
 use std::io::Print;
 
 // What a program says, at the front of a slice that is lent with it: so many bytes for standard output, or so many of a message for standard error. Not a
@@ -44,9 +43,9 @@ pub fn hex(bytes: &[u8], out: &mut [u8]) -> usize
 }
 
 // Says on standard error what is wrong with a program's input or output. The name is bytes, which need be no UTF-8, so it is not a text for `fmt`.
-pub(crate) fn complain(stderr: &impl Print, program: &[u8], what: &[u8]) -> io::Result<()> {
-    stderr.write_all(program)?;
-    stderr.write_all(what)
+pub(crate) fn complain(stderr: &impl Print, program: &[u8], what: &[u8]) {
+    let _ = stderr.write_all(program);
+    let _ = stderr.write_all(what);
 }
 
 // Says it. Where standard output cannot be written, the program of this name says so on standard error. No contract can say what reaches a descriptor.
@@ -57,7 +56,7 @@ pub fn say(stdout: &impl Print, stderr: &impl Print, program: &[u8], said: Said,
     match said {
         Said::Out(n) => {
             if stdout.write_all(&text[..n]).is_err() {
-                let _ = complain(stderr, program, b": standard output cannot be written\n");
+                complain(stderr, program, b": standard output cannot be written\n");
             }
         }
         Said::Err(n) => {

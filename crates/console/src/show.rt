@@ -1,19 +1,49 @@
-// What the programs that replay cases print, by `fmt`, of which no contract speaks.
+// What the programs that replay cases print, mostly by `fmt`. Of this a contract says the text of `Hex` alone. `print_hex` writes what `hex` makes, of which one says the
+// text, too.
+ghost use Rattle.std.specs.Prelude.{◌≡◌, ◌*◌, ◌≤◌, Some, length};
+ghost use Rattle.console.specs.Output.{hex_text};
+
 use crate::input::Pieces;
-use crate::output::all_are;
+use crate::output::{all_are, hex};
 use std::io::Print;
-use std::{fmt, io};
+use std::{fmt, io, str};
 
 // Bytes in lowercase hexadecimal.
 #[derive(Clone, Copy)]
 pub struct Hex<'a>(pub &'a [u8]);
 
+// The digits of some bytes as a text, put into the memory that is lent. A function of its own, since of a parameter the check knows that each byte is below 256.
+fn spelled<'a>(bytes: &[u8], digits: &'a mut [u8]) -> &'a str
+    requires { 2 * length bytes.now ≤ length digits.old }
+    ensures { result.now ≡ hex_text bytes.now }
+{
+    let n = hex(bytes, digits);
+    let Ok(text) = str::from_utf8(&digits[..n]) else {
+        unreachable!();
+    };
+    text
+}
+
 impl fmt::Display for Hex<'_> {
+    ghost output = { λ h. Some (hex_text h.0.now) };
+
+    // Not by `{b:02x}` for each byte, which takes several times as long.
     fn fmt<W: fmt::Write>(&self, f: &mut fmt::Formatter<W>) -> fmt::Result {
-        for b in self.0 {
-            write!(f, "{b:02x}")?;
+        let mut digits = [0u8; 64];
+        for chunk in self.0.chunks(32) {
+            f.write_str(spelled(chunk, &mut digits))?;
         }
         Ok(())
+    }
+}
+
+// The same of bytes that may be many, as `hex` makes them. Not by `Hex`: what is printed by `fmt` is put into a buffer byte by byte, which takes several times as
+// long. A write that fails leaves the output short, which a comparison shows.
+pub fn print_hex(rt: &impl Print, bytes: &[u8]) {
+    let mut digits = [0u8; 4096];
+    for chunk in bytes.chunks(2048) {
+        let n = hex(chunk, &mut digits);
+        let _ = rt.write_all(&digits[..n]);
     }
 }
 
@@ -50,29 +80,28 @@ impl fmt::Display for Touched<'_> {
     }
 }
 
-// Bytes as they are, and a newline: what is printed of a remark.
-pub fn print_line(rt: &impl Print, line: &[u8]) -> io::Result<()> {
-    rt.write_all(line)?;
-    println!(rt; "")
+// Bytes as they are, and a newline: what is printed of a remark. It cannot fail, as `print_hex`.
+pub fn print_line(rt: &impl Print, line: &[u8]) {
+    let _ = rt.write_all(line);
+    let _ = println!(rt; "");
 }
 
 // What a case came to: `None` where the text is no case, since it has not the operands that it should have; else whether what it printed was written.
 pub type Replayed = Option<io::Result<()>>;
 
-// What is printed of a text that is no case. It cannot fail: a write that fails leaves the output short, which a comparison shows.
+// What is printed of a text that is no case. It cannot fail, either.
 pub fn bad_case(rt: &impl Print) {
     let _ = println!(rt; "bad case");
 }
 
-// Replays the cases of a text, of which each goes up to the next `end`. A write that fails in a case ends it, and leaves the output short, too. A `main` that
-// answered it would rest on one more function of C.
+// Replays the cases of a text, of which each goes up to the next `end`. A write that fails ends its case, and leaves the output short, too; the next case is
+// replayed all the same. A `main` that answered it would rest on one more function of C.
 pub fn replay<P: Print, F: Fn(&P, &[u8]) -> Replayed + Drop>(rt: &P, text: &[u8], end: u8, case: F)
     requires { F.IsAlwaysCallable case }
 {
     for piece in Pieces::new(text, end) {
         match case(rt, piece) {
-            Some(Ok(())) => {}
-            Some(Err(_)) => return,
+            Some(_) => {}
             None => bad_case(rt),
         }
     }

@@ -1,14 +1,17 @@
 -- Laws of base64: characters and their bits, three bytes stored, the groups of a word.
 use mathlib.Core.Path.{◌≡◌, refl, sym, ap, ◌∙◌}
 use mathlib.Core.List.{List, [], ◌∷◌, ◌++◌, append_assoc}
-use mathlib.Core.Bool.{Bool, cond}
+use mathlib.Core.Bool.{Bool, true, false, cond}
 use Rattle.std.specs.Prelude.{Option, Some, None, MatchOption}
-use mathlib.Core.Logic.{◌≢◌}
-use Prim.Native.Nat.{ℕ, ◌+◌, ◌%◌, ◌<◌, ◌≤◌}
+use mathlib.Core.Logic.{◌≢◌, ◌⊎◌, inl, inr, ⊎_elim}
+use Prim.Native.Nat.{ℕ, zero, suc, ◌+◌, ◌-◌, ◌%◌, ◌<◌, ◌≤◌}
 use native.Mathlib.Omega.{arith}
 use lib.ListN.{length, take, drop, get_or}
 use lib.Seq.{sets, sets-eq, length-sets, take-append-add, take-append-le, length-take-le}
-use borrow.Author.Tests.{lt-ltb, le-ltb, eq-eqb, ne_eqb}
+use borrow.Author.Tests.{lt-ltb, le-ltb, eq-eqb, ne_eqb, eqb-true}
+use Rattle.std.specs.Prelude.{eqb, ◌&&◌}
+use Rattle.wire.proofs.BoolLaws.{both_true}
+use Rattle.std.proofs.lemmas.Bool.{cases_lt}
 use Rattle.std.specs.List.{AllWithin, HoldsAt}
 use Rattle.console.specs.Input.{up_to, onto}
 use Rattle.console.proofs.InputLaws.{up_to_place}
@@ -29,6 +32,66 @@ sextet_found b None h = sym (rw (le-ltb (up_to b alphabet) 64 (omega (arith, up_
 sextet_found b (Some i) h =
     let e : up_to b alphabet ≡ i = up_to_place b alphabet (Some i) h in
     sym (rw (lt-ltb (up_to b alphabet) 64 (omega (arith, e, h.0, alphabet_length))) (ap Some e))
+
+-- n numbers one after another, from a on.
+abbrev run : ℕ → ℕ → List ℕ
+run a zero = []
+run a (suc n) = a ∷ run (a + 1) n
+
+alphabet_runs : alphabet ≡ run 65 26 ++ (run 97 26 ++ (run 48 10 ++ (43 ∷ 47 ∷ [])))
+unfolding alphabet
+alphabet_runs = refl
+
+-- The place of a number that is not in a run is behind it.
+up_to_past : (b a n : ℕ) (rest : List ℕ) → (b < a) ⊎ (a + n ≤ b) → up_to b (run a n ++ rest) ≡ n + up_to b rest
+unfolding up_to
+up_to_past b a zero rest out = let e : up_to b rest ≡ 0 + up_to b rest = omega arith in e
+up_to_past b a (suc n) rest out =
+    let other : a ≡ b → ⊥ = λ (e : a ≡ b). ⊎_elim (λ (h : b < a). let z : ⊥ = omega arith in z) (λ (h : a + suc n ≤ b). let z : ⊥ = omega arith in z) out in
+    let further : (b < a + 1) ⊎ (a + 1 + n ≤ b) = ⊎_elim (λ (h : b < a). inl (omega arith)) (λ (h : a + suc n ≤ b). inr (omega arith)) out in
+    rw (ne_eqb a b other) (ap (λ (k : ℕ). 1 + k) (up_to_past b (a + 1) n rest further) ∙ omega arith)
+
+-- The places of the characters from + to z, one after another.
+abbrev pub places : List ℕ
+places = 62 ∷ 64 ∷ 64 ∷ 64 ∷ 63 ∷ 52 ∷ 53 ∷ 54 ∷ 55 ∷ 56 ∷ 57 ∷ 58 ∷ 59 ∷ 60 ∷ 61 ∷ 64 ∷ 64 ∷ 64 ∷ 64 ∷ 64 ∷ 64 ∷ 64 ∷ 0 ∷ 1 ∷ 2 ∷ 3 ∷ 4 ∷ 5 ∷ 6 ∷ 7 ∷ 8 ∷ 9 ∷ 10 ∷ 11 ∷ 12 ∷ 13 ∷ 14 ∷ 15 ∷ 16 ∷ 17 ∷ 18 ∷ 19 ∷ 20 ∷ 21 ∷ 22 ∷ 23 ∷ 24 ∷ 25 ∷ 64 ∷ 64 ∷ 64 ∷ 64 ∷ 64 ∷ 64 ∷ 26 ∷ 27 ∷ 28 ∷ 29 ∷ 30 ∷ 31 ∷ 32 ∷ 33 ∷ 34 ∷ 35 ∷ 36 ∷ 37 ∷ 38 ∷ 39 ∷ 40 ∷ 41 ∷ 42 ∷ 43 ∷ 44 ∷ 45 ∷ 46 ∷ 47 ∷ 48 ∷ 49 ∷ 50 ∷ 51 ∷ []
+
+-- Whether each is the place of its character, which antt counts out.
+all_right : ℕ → List ℕ → Bool
+all_right k [] = true
+all_right k (x ∷ l) = eqb x (up_to (43 + k) alphabet) && all_right (k + 1) l
+
+checked : all_right 0 places ≡ true
+unfolding alphabet up_to all_right
+checked = refl
+
+right_at : (k : ℕ) (l : List ℕ) → all_right k l ≡ true → (i : ℕ) → i < length l → get_or l i 0 ≡ up_to (43 + (k + i)) alphabet
+unfolding all_right
+right_at k [] e i h = absurd (let z : ⊥ = omega arith in z)
+right_at k (x ∷ l) e zero h = eqb-true x (up_to (43 + k) alphabet) (both_true (eqb x (up_to (43 + k) alphabet)) (all_right (k + 1) l) e).0 ∙ ap (λ (n : ℕ). up_to n alphabet) (let z : 43 + k ≡ 43 + (k + 0) = omega arith in z)
+right_at k (x ∷ l) e (suc i) h =
+    right_at (k + 1) l (both_true (eqb x (up_to (43 + k) alphabet)) (all_right (k + 1) l) e).1 i (omega arith)
+    ∙ ap (λ (n : ℕ). up_to n alphabet) (let z : 43 + (k + 1 + i) ≡ 43 + (k + suc i) = omega arith in z)
+
+-- What the table has for a character; and bytes before + and behind z have no place.
+pub place_at : (b : ℕ) → 43 ≤ b → b - 43 < 80 → get_or places (b - 43) 0 ≡ up_to b alphabet
+place_at b low high = right_at 0 places checked (b - 43) high ∙ ap (λ (n : ℕ). up_to n alphabet) (let z : 43 + (0 + (b - 43)) ≡ b = omega arith in z)
+
+-- Neither + nor /, and in no run.
+past_two : (b : ℕ) → (b ≡ 43 → ⊥) → (b ≡ 47 → ⊥) → up_to b (43 ∷ 47 ∷ []) ≡ 2
+unfolding up_to
+past_two b plus slash = rw (ne_eqb 43 b (λ (e : 43 ≡ b). plus (sym e))) (rw (ne_eqb 47 b (λ (e : 47 ≡ b). slash (sym e))) refl)
+
+place_none : (b : ℕ) → (b < 65) ⊎ (91 ≤ b) → (b < 97) ⊎ (123 ≤ b) → (b < 48) ⊎ (58 ≤ b) → (b ≡ 43 → ⊥) → (b ≡ 47 → ⊥) → 64 ≡ up_to b alphabet
+place_none b upper lower digit plus slash =
+    sym
+    (rw alphabet_runs (up_to_past b 65 26 _ upper
+    ∙ ap (λ (k : ℕ). 26 + k) (up_to_past b 97 26 _ lower ∙ ap (λ (k : ℕ). 26 + k) (up_to_past b 48 10 _ digit ∙ ap (λ (k : ℕ). 10 + k) (past_two b plus slash)))))
+
+pub place_before : (b : ℕ) → b < 43 → 64 ≡ up_to b alphabet
+place_before b h = place_none b (inl (omega arith)) (inl (omega arith)) (inl (omega arith)) (λ (e : b ≡ 43). let z : ⊥ = omega arith in z) (λ (e : b ≡ 47). let z : ⊥ = omega arith in z)
+
+pub place_behind : (b : ℕ) → 80 ≤ b - 43 → 64 ≡ up_to b alphabet
+place_behind b h = place_none b (inr (omega arith)) (inr (omega arith)) (inr (omega arith)) (λ (e : b ≡ 43). let z : ⊥ = omega arith in z) (λ (e : b ≡ 47). let z : ⊥ = omega arith in z)
 
 pub zero_value : sextet_of 65 ≡ Some 0
 unfolding sextet_of up_to alphabet

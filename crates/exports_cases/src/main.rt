@@ -6,12 +6,23 @@
 use batch::unpacking;
 use console::input::{cut, read_bytes, read_cases, read_number};
 use console::memory::filled;
-use console::show::{Hex, Replayed, print_line, replay};
+use console::show::{Hex, Replayed, print_hex, print_line, replay};
 use console::text::word;
 use exports::packing;
 use exports::packing::PackError;
 use std::io;
 use std::io::Print;
+
+// A blank and a state. Short ones are printed by one write, since a batch can have many. Records can overlap, so the states of a batch can have some hundred times
+// its bytes.
+fn print_state(rt: &impl Print, state: &[u8]) -> io::Result<()> {
+    if state.len() <= 32 {
+        return print!(rt; " {}", Hex(state));
+    }
+    print!(rt; " ")?;
+    print_hex(rt, state);
+    Ok(())
+}
 
 // How many records, the number that ends the chain, and the states.
 fn print_walk(rt: &impl Print, batch: &[u8]) -> io::Result<()> {
@@ -23,7 +34,7 @@ fn print_walk(rt: &impl Print, batch: &[u8]) -> io::Result<()> {
         Err(e) => print!(rt; "{n} {}", e.number())?,
     }
     for &index in &indices[..n] {
-        print!(rt; " {}", Hex(unpacking::state_at(batch, index as usize)))?;
+        print_state(rt, unpacking::state_at(batch, index as usize))?;
     }
     println!(rt; "")
 }
@@ -34,7 +45,8 @@ fn walk_case(rt: &impl Print, word: &[u8], bytes: &mut [u8]) -> Replayed {
 }
 
 fn print_batch(rt: &impl Print, batch: &[u8]) -> io::Result<()> {
-    println!(rt; "{}", Hex(batch))?;
+    print_hex(rt, batch);
+    println!(rt; "")?;
     print_walk(rt, batch)
 }
 
@@ -65,10 +77,7 @@ fn numbered(rt: &impl Print, lines: &[u8]) -> Replayed {
 }
 
 fn case(rt: &impl Print, lines: &[u8]) -> Replayed {
-    let remark = print_line(rt, cut(lines, b'\n').0);
-    if remark.is_err() {
-        return Some(remark);
-    }
+    print_line(rt, cut(lines, b'\n').0);
     numbered(rt, lines)
 }
 

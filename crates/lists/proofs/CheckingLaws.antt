@@ -50,6 +50,11 @@ neighbours (x ∷ y ∷ l) pair next n e h f g = record { x = x; y = y; behind =
 
 -- ---- no value is less than the one before
 
+pub rising_start : (l : List ℕ) → ascends l ≡ not_before (get_or l 0 0) (drop 1 l)
+unfolding ascends
+rising_start [] = refl
+rising_start (x ∷ l) = ap (λ (t : Bool). t && not_before x l) (le-leb 0 x (let h : 0 ≤ x = omega arith in h))
+
 ascends_none : ascends [] ≡ true
 unfolding ascends
 ascends_none = refl

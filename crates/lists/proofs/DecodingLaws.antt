@@ -1,5 +1,5 @@
 -- Laws of reading lists: a gap, one value after another, what an accepted list is, and that what is written is read back.
-use Rattle.std.proofs.Common.{◌≡◌, ℕ, zero, suc, ◌+◌, ◌-◌, ◌*◌, ◌%◌, ◌^◌, ◌<◌, ◌≤◌, Bool, true, false, cond, not, ◌&&◌, ◌||◌, eqb, ltb, leb, ◌⊎◌, List, [], ◌∷◌, ◌++◌, length, take, drop, set, sym, refl, ap, ◌∙◌, subst, ap₂, inl, inr, ⊎_elim, append_assoc, append-nil, le_trans, le_refl, lt_of_le_of_lt, add-one, arith, length-append, length-drop, drop_of_length-le, length-take-le, take-suc-set, pow_pos, ltb-false, ltb-true, le-ltb, lt-ltb, le-leb, leb-true, Result, Ok, Err, IsErrAnd}
+use Rattle.std.proofs.Common.{◌≡◌, ℕ, zero, suc, ◌+◌, ◌-◌, ◌*◌, ◌%◌, ◌^◌, ◌<◌, ◌≤◌, Bool, true, false, cond, not, ◌&&◌, ◌||◌, eqb, ltb, leb, ◌⊎◌, List, [], ◌∷◌, ◌++◌, length, get_or, take, drop, set, sym, refl, ap, ◌∙◌, subst, ap₂, inl, inr, ⊎_elim, append_assoc, append-nil, le_trans, le_refl, lt_of_le_of_lt, add-one, arith, length-append, length-drop, drop_of_length-le, length-take-le, take-suc-set, pow_pos, ltb-false, ltb-true, le-ltb, lt-ltb, le-leb, leb-true, Result, Ok, Err, IsErrAnd}
 use mathlib.Core.Bool.{and_assoc, and-true}
 use borrow.Author.Tests.{not-false}
 use Rattle.wire.proofs.BoolLaws.{both, both_true, absorbed, whichever}
@@ -58,12 +58,12 @@ module _ {s : List ℕ} {start at w x : ℕ} (n : ℕ) (g : Begun 5 s start at (
         (begun_more n g f.0 f.1 l (e ∙ ap (λ (y : ℕ). x + y * w) (let h : b - 128 ≡ b % 128 = omega (arith, f.2) in h)))
 
 -- A fifth byte with a bit of f0: of 16 to 127 it makes a value of 2^32 or more, and of 128 or more one of more than five bytes.
-gap_long : {s : List ℕ} {start at x b : ℕ} → Begun 5 s start at 1 0x1000_0000 x → BytePost s at (Ok b) → 16 ≤ b → GapPost s start (Err GapTooLong)
-gap_long {s} {start} {at} {x} {b} g f h =
+pub gap_long : {s : List ℕ} {start at x b : ℕ} → Begun 5 s start at 1 0x1000_0000 x → at < length s → b ≡ get_or s at 0 → 16 ≤ b → GapPost s start (Err GapTooLong)
+gap_long {s} {start} {at} {x} {b} g inside e h =
     ⊎_elim
     (λ (l : b < 128).
-    long (sym (gap_large (x + b * 0x1000_0000) (drop (at + 1) s) (omega arith)) ∙ gap_is (drop start s) _ (begun_last 0 g f.0 f.1 l)))
-    (λ (l : 128 ≤ b). long (gap_is (drop start s) (refused 4) (begun_long (begun_more 0 g f.0 f.1 l refl)))) (side b 128)
+    long (sym (gap_large (x + b * 0x1000_0000) (drop (at + 1) s) (omega arith)) ∙ gap_is (drop start s) _ (begun_last 0 g inside e l)))
+    (λ (l : 128 ≤ b). long (gap_is (drop start s) (refused 4) (begun_long (begun_more 0 g inside e l refl)))) (side b 128)
   where
     long : refused 19 ≡ gap_of (drop start s) → GapPost s start (Err GapTooLong)
     long f = record { answer = f; inside = tt }
@@ -131,7 +131,7 @@ module _ (s : List ℕ) (at : ℕ) where
                     last_5 l = gap_last 0 past_4 fe (omega arith) (omega arith) (omega arith) (omega (arith, past_4.small))
 
                     pub long_5 : 16 ≤ e → GapPost s at (Err GapTooLong)
-                    long_5 l = gap_long past_4 fe l
+                    long_5 l = gap_long past_4 fe.0 fe.1 l
 
 -- ---- tests
 
@@ -556,6 +556,28 @@ accepted p s l {vs} {rest} e = go (sums_of p s (length l) l 0) refl e
               fewer = m.fewer;
               short = m.short;
             }
+
+-- A walk over a list that is accepted: it is not stopped, its values so far are the list's first ones, each is valid, and at the end they are all.
+module _ {p s : ℕ} {bytes vs : List ℕ} {at last plain : ℕ} {all rest : List ℕ} (e : decode_of p s bytes ≡ got all rest) (g : Going p s bytes vs at last plain) where
+  pub going_front : (more : List ℕ) × (all ≡ vs ++ more)
+  going_front = let j = joined_got vs (sums_of p s g.bound (drop at bytes) last) (sym g.whole ∙ (accepted p s bytes e).sums) in (j.0, j.1)
+
+  pub going_valid : all_valid p s vs ≡ true
+  going_valid =
+      let f = going_front in
+      (both_true (all_valid p s vs) (all_valid p s f.0)
+      (sym (ap (all_valid p s) f.1 ∙ all_append p s vs f.0) ∙ (accepted p s bytes e).all)).0
+
+  pub going_whole : length bytes ≤ at → all ≡ vs
+  going_whole h = let f : got all rest ≡ got vs [] = sym (accepted p s bytes e).sums ∙ all_read g h in cc
+
+  pub going_unstopped : at < length bytes → {x : DecodeError} → NextValuePost p s bytes at last (Err x) → ⊥
+  going_unstopped h a = let f = going_stopped g h a in absurd (let z : ◌≡◌ {A = ℕ} 0 1 = cc in omega arith)
+
+pub going_value : {p s : ℕ} {bytes vs : List ℕ} {at last plain : ℕ} {all rest : List ℕ} {v next : ℕ} → decode_of p s bytes ≡ got all rest
+    → Going p s bytes vs at last plain → at < length bytes → NextValuePost p s bytes at last (Ok (v, next)) → valid p s v ≡ true
+going_value {p} {s} {vs = vs} {v = v} e g h a =
+    (both_true (all_valid p s vs) (valid p s v) (sym (all_more p s vs v) ∙ going_valid e (going_next g h a refl))).1
 
 -- No bytes are a list of no values, whatever the precisions are.
 pub decode_none : (p s : ℕ) → decode_of p s [] ≡ got [] []

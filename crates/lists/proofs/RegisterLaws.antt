@@ -254,6 +254,9 @@ pub record CountingNotZero (regs : List ℕ) (count i : ℕ) : Type 0 where
   pub few : count ≤ i
   pub sum : count + not_zero_count (drop i regs) ≡ not_zero_count regs
 
+pub count_none : (regs : List ℕ) → CountingNotZero regs 0 0
+count_none regs = record { few = zero-le; sum = let e : 0 + not_zero_count regs ≡ not_zero_count regs = omega arith in e }
+
 pub count_turn : (regs : List ℕ) (count i x r : ℕ) → i < length regs → r ≡ get_or regs i 0 → x ≡ from_bool (not (eqb r 0)) → CountingNotZero regs count i
     → CountingNotZero regs (count + x) (i + 1)
 unfolding not_zero_count
@@ -307,6 +310,46 @@ pub record Scanned (bytes : List ℕ) (from to i : ℕ) : Type 0 where
   pub low : from ≤ i
   pub high : i ≤ to
   pub none : (p x : ℕ) → register_bytes p ≤ length bytes → to ≤ 2 ^ p → from ≤ x → x < i → get_or (registers_of p bytes) x 0 ≡ 0
+
+pub scan_none : (bytes : List ℕ) (from to : ℕ) → from ≤ to → Scanned bytes from to from
+scan_none bytes from to h =
+    record {
+      low = le_of_eq refl;
+      high = h;
+      none = λ (p x : ℕ) (room : register_bytes p ≤ length bytes) (w : to ≤ 2 ^ p) (a : from ≤ x) (b : x < from). absurd (let z : ⊥ = omega arith in z);
+    }
+
+pub scan_turn : (bytes : List ℕ) (from to i r : ℕ) → i < to → ReadPost bytes i r → r ≡ 0 → Scanned bytes from to i → Scanned bytes from to (i + 1)
+scan_turn bytes from to i r h read z s =
+    record {
+      low = omega (arith, s.low);
+      high = omega arith;
+      none = λ (p x : ℕ) (room : register_bytes p ≤ length bytes) (w : to ≤ 2 ^ p) (a : from ≤ x) (b : x < i + 1).
+          ⊎_elim (λ (c : x < i). s.none p x room w a c)
+          (λ (c : i ≤ x).
+          let e : x ≡ i = omega arith in
+          ap (λ (n : ℕ). get_or (registers_of p bytes) n 0) e ∙ sym (read.value p room (let g : i < 2 ^ p = omega arith in g)) ∙ z) (side x i);
+    }
+
+pub scan_found : (bytes : List ℕ) (from to i r : ℕ) → i < to → ReadPost bytes i r → (r ≡ 0 → ⊥) → Scanned bytes from to i → ScanPost bytes from to i
+scan_found bytes from to i r h read z s =
+    record {
+      low = s.low;
+      high = s.high;
+      none = s.none;
+      found = λ (p : ℕ) (room : register_bytes p ≤ length bytes) (w : to ≤ 2 ^ p) (l : i < to).
+          subst (λ (n : ℕ). 0 < n) (read.value p room (let g : i < 2 ^ p = omega arith in g))
+          (pos_of_ne-zero z);
+    }
+
+pub scan_end : (bytes : List ℕ) (from to i : ℕ) → to ≤ i → Scanned bytes from to i → ScanPost bytes from to i
+scan_end bytes from to i h s =
+    record {
+      low = s.low;
+      high = s.high;
+      none = s.none;
+      found = λ (p : ℕ) (room : register_bytes p ≤ length bytes) (w : to ≤ 2 ^ p) (l : i < to). absurd (let z : ⊥ = omega arith in z);
+    }
 
 -- ---- one register of those lowered
 

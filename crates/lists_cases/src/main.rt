@@ -10,8 +10,8 @@ ghost use Rattle.lists_cases.specs.Tests.{Mergeable, Insertable};
 
 use console::input::{read_bytes, read_cases};
 use console::memory::filled;
-use console::show::{FILL, Hex, List, Replayed, Touched, print_line, replay};
-use console::text::{read_list, read_value, word};
+use console::show::{FILL, Hex, List, Replayed, Touched, print_hex, print_line, replay};
+use console::text::{precision, read_list, read_value, word};
 use lists::merging::Merged;
 use lists::values::Sparse;
 use std::io;
@@ -170,7 +170,8 @@ fn print_registers(rt: &impl Print, p: u32, registers: &[u8]) -> Replayed {
     }
     let count = lists::registers::count_not_zero(registers, p);
     let top = lists::registers::largest_register(registers, p);
-    Some(println!(rt; "{} {count} {top}", Hex(registers)))
+    print_hex(rt, registers);
+    Some(println!(rt; " {count} {top}"))
 }
 
 // The listed values raise registers of precision q.
@@ -204,7 +205,7 @@ fn max_case(rt: &impl Print, line: &[u8]) -> Replayed {
     let mut target: [u8; 4096] = filled(0);
     let m = read_bytes(word(line, 4), &mut target)?;
     let (source, target) = (&source[..n], &mut target[..m]);
-    let (p, q) = (read_value(word(line, 1))?, read_value(word(line, 2))?);
+    let (p, q) = (precision(word(line, 1)), precision(word(line, 2)));
     if p < q || !tests::holds(q, &target[..]) || !lowers(p, p - q, source) {
         return None;
     }
@@ -221,7 +222,7 @@ fn lower_case(rt: &impl Print, line: &[u8]) -> Replayed {
     let mut registers: [u8; 4096] = filled(0);
     let n = read_bytes(word(line, 3), &mut registers)?;
     let registers = &mut registers[..n];
-    let (p, q) = (read_value(word(line, 1))?, read_value(word(line, 2))?);
+    let (p, q) = (precision(word(line, 1)), precision(word(line, 2)));
     if p < q || !lowers(p, p - q, &registers[..]) {
         return None;
     }
@@ -240,7 +241,10 @@ fn pair(line: &[u8]) -> Option<Sparse> {
 // A line: a letter, and behind a blank its operands.
 fn case(rt: &impl Print, line: &[u8]) -> Replayed {
     match *line.first()? {
-        b'#' => Some(print_line(rt, line)),
+        b'#' => {
+            print_line(rt, line);
+            Some(Ok(()))
+        }
         b'v' => value_case(rt, pair(line)?, line),
         b'd' => decode_case(rt, pair(line)?, line),
         b'm' => merge_case(rt, pair(line)?, line),

@@ -21,7 +21,10 @@ fn batch_line(rt: &impl Print, line: &[u8]) -> Replayed {
 // A line that starts with `#` is a remark. One with no bytes is a batch with none.
 fn case(rt: &impl Print, line: &[u8]) -> Replayed {
     match line {
-        [b'#', ..] => Some(print_line(rt, line)),
+        [b'#', ..] => {
+            print_line(rt, line);
+            Some(Ok(()))
+        }
         _ => batch_line(rt, line),
     }
 }

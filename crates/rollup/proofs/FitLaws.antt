@@ -154,7 +154,7 @@ module _ (a : Accumulator) (kept waiting : List ℕ) where
   unfolding lists_fit
   lists_yes x = sym (both_yes (leb (written kept) a.sparse_bytes) (both (both x.kept_valid x.waiting_valid) x.order))
 
-  lists_all : lists_fit a kept waiting ≡ true → Lists × (leb (written kept) a.sparse_bytes ≡ true)
+  pub lists_all : lists_fit a kept waiting ≡ true → Lists × (leb (written kept) a.sparse_bytes ≡ true)
   unfolding lists_fit
   lists_all e =
       let c₁ = all_valid a.precision a.sparse_precision kept in

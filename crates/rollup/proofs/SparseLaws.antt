@@ -265,7 +265,7 @@ module _ {h : Accumulator} {registers sparse pending scratch : List ℕ} {k : �
           let x = at_pair new (λ (p s : ℕ). MergePost p s kept (waiting ++ vs) u after) (sorted_post enc (waiting ++ vs) in_order post) in
           record { count = x.count; sum = x.bytes; values = x.values }
 
-      merged_inside : length after ≡ length sparse → u.len ≤ length after
+      pub merged_inside : length after ≡ length sparse → u.len ≤ length after
       merged_inside e =
           omega (
             arith,
@@ -308,7 +308,7 @@ module _ {h : Accumulator} {registers sparse scratch : List ℕ} {k : ℕ} (pre 
         let x = at_pair new (λ (p s : ℕ). InsertPost p s sparse h.sparse_len new_values h.sparse_bytes u after) post in
         record { count = x.count; sum = omega (arith, x.bytes); values = x.values }
 
-    inserted_inside : length after ≡ length sparse → u.len ≤ length after
+    pub inserted_inside : length after ≡ length sparse → u.len ≤ length after
     inserted_inside e =
         omega (arith, one_count pre.ready inserted_few inserted_one, pre.in_sparse, new_length, taken_length h.sparse_len sparse)
 

@@ -1,5 +1,5 @@
 -- The compact reader answers only for the layout that it knows, and then as the definitions of reading say.
-use Rattle.std.specs.Prelude.{List, ℕ, ◌<◌, Option, Ok, IfSome}
+use Rattle.std.specs.Prelude.{◌≡◌, List, ℕ, ◌+◌, ◌<◌, Option, Ok, IfSome}
 use Rattle.wire.specs.declared.varint.Cursor.{Cursor}
 use Rattle.wire.specs.declared.state.HllFields.{HllFields}
 use Rattle.wire.specs.declared.state.Fields.{Fields}
@@ -8,7 +8,7 @@ use Rattle.wire.specs.State.{StepPost, HllStepPost, HllPost, ParsePost}
 
 -- A byte below 128 is a whole varint.
 abbrev pub SmallPost : List ℕ → ℕ → Option (ℕ × Cursor) → Type 0
-SmallPost s at r = IfSome r (λ (p : ℕ × Cursor). VarintPost s at (Ok p) × (p.0 < 128))
+SmallPost s at r = IfSome r (λ (p : ℕ × Cursor). VarintPost s at (Ok p) × (p.1.at ≡ at + 1) × (p.0 < 128))
 
 abbrev pub CompactHllStepPost : List ℕ → ℕ → ℕ → HllFields → Option (HllFields × Cursor) → Type 0
 CompactHllStepPost m base at h r = IfSome r (λ (p : HllFields × Cursor). HllStepPost m base at h (Ok p))

@@ -65,11 +65,21 @@ pub fn put_varint(out: &mut [u8], start: usize, value: u64) -> usize
     at + 1
 }
 
-// How many bytes a value takes: 1 to 5.
+// How many bytes a value takes: 1 to 5. (By comparisons: the loop of `varint_len_64` takes longer.)
 pub fn varint_len(v: u32) -> usize
     ensures { result ≡ length (varint_bytes 5 v) }
 {
-    varint_len_64(u64::from(v))
+    if v < 0x80 {
+        1
+    } else if v < 0x4000 {
+        2
+    } else if v < 0x20_0000 {
+        3
+    } else if v < 0x1000_0000 {
+        4
+    } else {
+        5
+    }
 }
 
 // The same of any value: 1 to 10.

@@ -4,23 +4,21 @@
 
 use console::input::{cut, read_bytes, read_cases, read_number};
 use console::memory::filled;
-use console::show::{FILL, Hex, Replayed, Touched, print_line, replay};
+use console::show::{FILL, Hex, Replayed, Touched, print_hex, print_line, replay};
 use console::text::{read_value, word};
+use std::io;
 use std::io::Print;
-use std::{fmt, io};
 use wire::varint::Cursor;
 use wire::view::StateView;
 
 // A data field: `-` where it is absent, `.` where it is empty.
-#[derive(Clone, Copy)]
-struct Field<'a>(Option<&'a [u8]>);
-
-impl fmt::Display for Field<'_> {
-    fn fmt<W: fmt::Write>(&self, f: &mut fmt::Formatter<W>) -> fmt::Result {
-        match self.0 {
-            None => f.write_str("-"),
-            Some([]) => f.write_str("."),
-            Some(bytes) => write!(f, "{}", Hex(bytes)),
+fn print_field(rt: &impl Print, field: Option<&[u8]>) -> io::Result<()> {
+    match field {
+        None => print!(rt; "-"),
+        Some([]) => print!(rt; "."),
+        Some(bytes) => {
+            print_hex(rt, bytes);
+            Ok(())
         }
     }
 }
@@ -35,10 +33,11 @@ fn print_fields(rt: &impl Print, view: StateView) -> io::Result<()> {
         h.precision.cast_signed(),
         h.sparse_precision.cast_signed(),
     );
-    let data = Field(h.data_present.then_some(view.data()));
-    let sparse_data = Field(h.sparse_data_present.then_some(view.sparse_data()));
     print!(rt; "{kind} {count} {version} {value_type} {size} {p} {s} ")?;
-    println!(rt; "{data} {sparse_data}")
+    print_field(rt, h.data_present.then_some(view.data()))?;
+    print!(rt; " ")?;
+    print_field(rt, h.sparse_data_present.then_some(view.sparse_data()))?;
+    println!(rt; "")
 }
 
 fn parse_case(rt: &impl Print, bytes: &[u8]) -> Replayed {
@@ -90,16 +89,19 @@ fn with_number<F: Fn(usize, &[u8]) -> Replayed + Drop>(operands: &[u8], case: F)
     with_bytes(bytes, |bytes| case(v, bytes))
 }
 
-// A line: a letter, and behind a blank its operands.
+// A line: a letter, a blank and its operands. (The second byte is not looked at.)
 fn case(rt: &impl Print, line: &[u8]) -> Replayed {
-    let (_, operands) = cut(line, b' ');
+    let rest = line.get(2..).unwrap_or(&[]);
     match *line.first()? {
-        b'#' => Some(print_line(rt, line)),
-        b'p' => with_bytes(operands, |bytes| parse_case(rt, bytes)),
-        b'v' => with_number(operands, |at, bytes| varint_case(rt, at, bytes)),
-        b'w' => read_number(word(line, 1)).map(|v| put_case(rt, v)),
-        b'l' => read_value(word(line, 1)).map(|v| println!(rt; "{}", wire::varint::varint_len(v))),
-        b'e' => with_number(operands, |size, bytes| encode_case(rt, size, bytes)),
+        b'#' => {
+            print_line(rt, line);
+            Some(Ok(()))
+        }
+        b'p' => with_bytes(rest, |bytes| parse_case(rt, bytes)),
+        b'v' => with_number(rest, |at, bytes| varint_case(rt, at, bytes)),
+        b'w' => read_number(word(rest, 0)).map(|v| put_case(rt, v)),
+        b'l' => read_value(word(rest, 0)).map(|v| println!(rt; "{}", wire::varint::varint_len(v))),
+        b'e' => with_number(rest, |size, bytes| encode_case(rt, size, bytes)),
         _ => None,
     }
 }
