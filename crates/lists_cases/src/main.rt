@@ -170,6 +170,10 @@ fn print_registers(rt: &impl Print, p: u32, registers: &[u8]) -> Replayed {
     }
     let count = lists::registers::count_not_zero(registers, p);
     let top = lists::registers::largest_register(registers, p);
+    // Few bytes are printed by one write.
+    if registers.len() <= 32 {
+        return Some(println!(rt; "{} {count} {top}", Hex(registers)));
+    }
     print_hex(rt, registers);
     Some(println!(rt; " {count} {top}"))
 }

@@ -6,20 +6,33 @@ use console::input::{cut, read_bytes, read_cases, read_number};
 use console::memory::filled;
 use console::show::{FILL, Hex, Replayed, Touched, print_hex, print_line, replay};
 use console::text::{read_value, word};
-use std::io;
 use std::io::Print;
+use std::{fmt, io};
 use wire::varint::Cursor;
 use wire::view::StateView;
 
 // A data field: `-` where it is absent, `.` where it is empty.
+#[derive(Clone, Copy)]
+struct Field<'a>(Option<&'a [u8]>);
+
+impl fmt::Display for Field<'_> {
+    fn fmt<W: fmt::Write>(&self, f: &mut fmt::Formatter<W>) -> fmt::Result {
+        match self.0 {
+            None => f.write_str("-"),
+            Some([]) => f.write_str("."),
+            Some(bytes) => write!(f, "{}", Hex(bytes)),
+        }
+    }
+}
+
+// A field that may have many bytes.
 fn print_field(rt: &impl Print, field: Option<&[u8]>) -> io::Result<()> {
     match field {
-        None => print!(rt; "-"),
-        Some([]) => print!(rt; "."),
-        Some(bytes) => {
+        Some(bytes) if !bytes.is_empty() => {
             print_hex(rt, bytes);
             Ok(())
         }
+        _ => print!(rt; "{}", Field(field)),
     }
 }
 
@@ -33,10 +46,16 @@ fn print_fields(rt: &impl Print, view: StateView) -> io::Result<()> {
         h.precision.cast_signed(),
         h.sparse_precision.cast_signed(),
     );
+    let data = h.data_present.then_some(view.data());
+    let sparse_data = h.sparse_data_present.then_some(view.sparse_data());
     print!(rt; "{kind} {count} {version} {value_type} {size} {p} {s} ")?;
-    print_field(rt, h.data_present.then_some(view.data()))?;
+    // Short fields, as most are, are printed by one write.
+    if view.data().len() <= 32 && view.sparse_data().len() <= 32 {
+        return println!(rt; "{} {}", Field(data), Field(sparse_data));
+    }
+    print_field(rt, data)?;
     print!(rt; " ")?;
-    print_field(rt, h.sparse_data_present.then_some(view.sparse_data()))?;
+    print_field(rt, sparse_data)?;
     println!(rt; "")
 }
 
