@@ -1,5 +1,5 @@
 -- What a program says, and the text of an answer.
-use Rattle.std.specs.Prelude.{◌≡◌, List, [], ◌∷◌, Bool, cond, ℕ, ◌+◌, ◌/◌, ◌%◌, ltb, eqb, take, drop}
+use Rattle.std.specs.Prelude.{◌≡◌, List, [], ◌∷◌, ◌++◌, Bool, cond, ℕ, ◌+◌, ◌/◌, ◌%◌, ltb, eqb, length, take, drop}
 use Prim.Native.Char.{code}
 use Prim.Native.String.{String, [] as empty, ◌∷◌ as ◌then◌}
 use Rattle.std.specs.Counts.{IsPrefixLen}
@@ -50,3 +50,8 @@ pub record HexPost (bytes out : List ℕ) (r : ℕ) (after : List ℕ) : Type 0 
   pub text : take r after ≡ hex_text bytes
   pub rest : drop r after ≡ drop r out
   pub counts : IsPrefixLen r after
+
+-- What is left to write of a text when a piece has come behind what was left. Where 1,024 bytes have no room for both, the first is written; and so is a piece for which
+-- they never have.
+abbrev pub unwritten : List ℕ → List ℕ → List ℕ
+unwritten before piece = cond (ltb 1024 (length piece)) [] (cond (ltb 1024 (length before + length piece)) piece (before ++ piece))

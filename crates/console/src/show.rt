@@ -1,5 +1,5 @@
-// What the programs that replay cases print, mostly by `fmt`. Of this a contract says the text of `Hex` alone. `print_hex` writes what `hex` makes, of which one says the
-// text, too.
+// What the programs that replay cases print, mostly by `fmt`. Of this a contract says the text of `Hex` alone, where it is no error: an error is the writer's, and
+// nothing is said of it. `print_hex` writes what `hex` makes, of which one says the text, too.
 ghost use Rattle.std.specs.Prelude.{◌≡◌, ◌*◌, ◌≤◌, Some, length};
 ghost use Rattle.console.specs.Output.{hex_text};
 
@@ -37,8 +37,8 @@ impl fmt::Display for Hex<'_> {
     }
 }
 
-// The same of bytes that may be many, as `hex` makes them. Not by `Hex`: what is printed by `fmt` is put into a buffer byte by byte, which takes several times as
-// long. A write that fails leaves the output short, which a comparison shows.
+// The same of bytes that may be many, as `hex` makes them. Not by `Hex`, whose digits come by pieces of 64: that takes one and a half times the instructions. A write
+// that fails leaves the output short, which a comparison shows.
 pub fn print_hex(rt: &impl Print, bytes: &[u8]) {
     let mut digits = [0u8; 4096];
     for chunk in bytes.chunks(2048) {
@@ -80,22 +80,22 @@ impl fmt::Display for Touched<'_> {
     }
 }
 
-// Bytes as they are, and a newline: what is printed of a remark. It cannot fail, as `print_hex`.
+// Bytes as they are, and a newline: what is printed of a remark. It cannot fail, as `print_hex`, and goes past the buffer of `fmt`, too.
 pub fn print_line(rt: &impl Print, line: &[u8]) {
     let _ = rt.write_all(line);
-    let _ = println!(rt; "");
+    let _ = rt.write_all(b"\n");
 }
 
-// What a case came to: `None` where the text is no case, since it has not the operands that it should have; else whether what it printed was written.
+// What a case came to: `None` where the text is no case, since it has not the operands that it should have; else what came of its last write, which `Tried` passes over.
 pub type Replayed = Option<io::Result<()>>;
 
 // What is printed of a text that is no case. It cannot fail, either.
 pub fn bad_case(rt: &impl Print) {
-    let _ = println!(rt; "bad case");
+    let _ = rt.write_all(b"bad case\n");
 }
 
-// Replays the cases of a text, of which each goes up to the next `end`. A write that fails ends its case, and leaves the output short, too; the next case is
-// replayed all the same. A `main` that answered it would rest on one more function of C.
+// Replays the cases of a text, of which each goes up to the next `end`. What came of a case's writes is not looked at: a `main` that answered it would rest on one more
+// function of C.
 pub fn replay<P: Print, F: Fn(&P, &[u8]) -> Replayed + Drop>(rt: &P, text: &[u8], end: u8, case: F)
     requires { F.IsAlwaysCallable case }
 {

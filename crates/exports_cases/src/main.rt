@@ -8,6 +8,7 @@ use console::input::{cut, read_bytes, read_cases, read_number};
 use console::memory::filled;
 use console::show::{Hex, Replayed, print_hex, print_line, replay};
 use console::text::word;
+use console::tried::Tried;
 use exports::packing;
 use exports::packing::PackError;
 use std::io;
@@ -84,5 +85,5 @@ fn case(rt: &impl Print, lines: &[u8]) -> Replayed {
 fn main(rt: HostRuntime) {
     let mut buf: [u8; 65536] = filled(0);
     let n = read_cases(&mut rt.stdin(), &rt.stderr(), b"exports_cases", &mut buf);
-    replay(&rt, &buf[..n], b'|', case);
+    replay(&Tried(&rt), &buf[..n], b'|', case);
 }

@@ -12,6 +12,7 @@ use console::input::{read_bytes, read_cases};
 use console::memory::filled;
 use console::show::{FILL, Hex, List, Replayed, Touched, print_hex, print_line, replay};
 use console::text::{precision, read_list, read_value, word};
+use console::tried::Tried;
 use lists::merging::Merged;
 use lists::values::Sparse;
 use std::io;
@@ -267,5 +268,5 @@ fn case(rt: &impl Print, line: &[u8]) -> Replayed {
 fn main(rt: HostRuntime) {
     let mut buf: [u8; 65536] = filled(0);
     let n = read_cases(&mut rt.stdin(), &rt.stderr(), b"lists_cases", &mut buf);
-    replay(&rt, &buf[..n], b'\n', case);
+    replay(&Tried(&rt), &buf[..n], b'\n', case);
 }

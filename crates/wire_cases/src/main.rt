@@ -6,6 +6,7 @@ use console::input::{cut, read_bytes, read_cases, read_number};
 use console::memory::filled;
 use console::show::{FILL, Hex, Replayed, Touched, print_hex, print_line, replay};
 use console::text::{read_value, word};
+use console::tried::Tried;
 use std::io::Print;
 use std::{fmt, io};
 use wire::varint::Cursor;
@@ -128,5 +129,5 @@ fn case(rt: &impl Print, line: &[u8]) -> Replayed {
 fn main(rt: HostRuntime) {
     let mut buf: [u8; 65536] = filled(0);
     let n = read_cases(&mut rt.stdin(), &rt.stderr(), b"wire_cases", &mut buf);
-    replay(&rt, &buf[..n], b'\n', case);
+    replay(&Tried(&rt), &buf[..n], b'\n', case);
 }
