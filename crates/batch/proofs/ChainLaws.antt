@@ -108,6 +108,20 @@ chain_few (suc n) b before i = go (eqb i 0) (is_record b before i) (chain_few n 
     go false false h = omega arith
     go false true h = omega arith
 
+-- Each record stands above the one before, so fewer are left than bytes behind that one.
+pub chain_early : (n : ℕ) (b : List ℕ) (before i : ℕ) → before < length b → before + length (chain_from n b before i).indices < length b
+unfolding chain_from
+chain_early zero b before i h = omega (arith, h)
+chain_early (suc n) b before i h = go (eqb i 0) (is_record b before i) refl (chain_early n b i (next_at b i))
+  where
+    go : (x y : Bool) → is_record b before i ≡ y → (i < length b → i + length (chain_from n b i (next_at b i)).indices < length b)
+        → before + length (cond x (ends (Ok tt)) (cond y (onto i (chain_from n b i (next_at b i))) (ends (Err Broken)))).indices < length b
+    go true y e f = omega (arith, h)
+    go false false e f = omega (arith, h)
+    go false true e f =
+        let r = record_inside b before i e in
+        omega (arith, r.above, f (omega (arith, r.inside)))
+
 pub chain_is : (b : List ℕ) {t : Bool} → is_batch b ≡ t → chain_of b ≡ cond t (chain_from (length b) b 0 (word_at b 0)) (ends (Err NoBatch))
 unfolding chain_of
 chain_is b e = ap (λ (t : Bool). cond t (chain_from (length b) b 0 (word_at b 0)) (ends (Err NoBatch))) e
@@ -161,6 +175,18 @@ module _ {batch done : List ℕ} {rest : Chain} (w : Walk batch done rest) where
         indices = w.indices ∙ ap (λ (c : Chain). done ++ c.indices) e ∙ sym (append_assoc done (i ∷ []) next.indices);
         ending = w.ending ∙ ap (λ (c : Chain). c.ending) e;
       }
+
+  -- Fewer are done than the batch has bytes.
+  pub walk_early : is_batch batch ≡ true → length done < length batch
+  walk_early e =
+      omega (
+        arith,
+        (batch_size batch e).0,
+        chain_early (length batch) batch 0 (word_at batch 0) (omega (arith, (batch_size batch e).0)),
+        ap (λ (c : Chain). length c.indices) (chain_is batch e),
+        ap length w.indices,
+        length-append done rest.indices,
+      )
 
   -- While one is left, fewer are done than a batch can have.
   pub walk_few : {i : ℕ} {next : Chain} → rest ≡ onto i next → length done < 65536

@@ -1,7 +1,7 @@
 -- Laws of base64: characters and their bits, three bytes stored, the groups of a word.
 use mathlib.Core.Path.{◌≡◌, refl, sym, ap, ◌∙◌}
 use mathlib.Core.List.{List, [], ◌∷◌, ◌++◌, append_assoc}
-use mathlib.Core.Bool.{Bool, true, false, cond}
+use mathlib.Core.Bool.{Bool, true, cond}
 use Rattle.std.specs.Prelude.{Option, Some, None, MatchOption}
 use mathlib.Core.Logic.{◌≢◌, ◌⊎◌, inl, inr, ⊎_elim}
 use Prim.Native.Nat.{ℕ, zero, suc, ◌+◌, ◌-◌, ◌%◌, ◌<◌, ◌≤◌}
@@ -11,7 +11,6 @@ use lib.Seq.{sets, sets-eq, length-sets, take-append-add, take-append-le, length
 use borrow.Author.Tests.{lt-ltb, le-ltb, eq-eqb, ne_eqb, eqb-true}
 use Rattle.std.specs.Prelude.{eqb, ◌&&◌}
 use Rattle.wire.proofs.BoolLaws.{both_true}
-use Rattle.std.proofs.lemmas.Bool.{cases_lt}
 use Rattle.std.specs.List.{AllWithin, HoldsAt}
 use Rattle.console.specs.Input.{up_to, onto}
 use Rattle.console.proofs.InputLaws.{up_to_place}
