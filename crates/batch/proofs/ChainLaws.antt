@@ -6,7 +6,7 @@ use mathlib.Core.List.{List, [], ◌∷◌, ◌++◌, append_assoc, append-nil}
 use mathlib.Core.Bool.{Bool, true, false, cond, ◌&&◌}
 use native.Mathlib.Omega.{arith}
 use lib.Dec.{ltb, leb, eqb}
-use lib.ListN.{length, drop, set, length-append}
+use lib.ListN.{length, drop, set, get_or, length-append}
 use lib.Seq.{drop-set-lt, drop-drop}
 use borrow.Author.Tests.{leb-true, leb-false, ltb-true, lt-ltb, le-leb, lt-leb, eq-eqb, ne_eqb}
 use Rattle.std.specs.Prelude.{⊤, Result, Ok, Err}
@@ -108,19 +108,18 @@ chain_few (suc n) b before i = go (eqb i 0) (is_record b before i) (chain_few n 
     go false false h = omega arith
     go false true h = omega arith
 
--- Each record stands above the one before, so fewer are left than bytes behind that one.
-pub chain_early : (n : ℕ) (b : List ℕ) (before i : ℕ) → before < length b → before + length (chain_from n b before i).indices < length b
+-- Each record stands above the one before, so that no more stand in front of an index than that.
+pub chain_last : (n : ℕ) (b : List ℕ) (before i : ℕ) (done : List ℕ) (at : ℕ) (rest : List ℕ) → (chain_from n b before i).indices ≡ done ++ at ∷ rest → before + length done < at
 unfolding chain_from
-chain_early zero b before i h = omega (arith, h)
-chain_early (suc n) b before i h = go (eqb i 0) (is_record b before i) refl (chain_early n b i (next_at b i))
+chain_last zero b before i done at rest e = omega (arith, ap length e, length-append done (at ∷ rest))
+chain_last (suc n) b before i done at rest e = go (eqb i 0) (is_record b before i) refl (λ d h. chain_last n b i (next_at b i) d at rest h) done e
   where
-    go : (x y : Bool) → is_record b before i ≡ y → (i < length b → i + length (chain_from n b i (next_at b i)).indices < length b)
-        → before + length (cond x (ends (Ok tt)) (cond y (onto i (chain_from n b i (next_at b i))) (ends (Err Broken)))).indices < length b
-    go true y e f = omega (arith, h)
-    go false false e f = omega (arith, h)
-    go false true e f =
-        let r = record_inside b before i e in
-        omega (arith, r.above, f (omega (arith, r.inside)))
+    go : (x y : Bool) → is_record b before i ≡ y → ((d : List ℕ) → (chain_from n b i (next_at b i)).indices ≡ d ++ at ∷ rest → i + length d < at)
+        → (d : List ℕ) → (cond x (ends (Ok tt)) (cond y (onto i (chain_from n b i (next_at b i))) (ends (Err Broken)))).indices ≡ d ++ at ∷ rest → before + length d < at
+    go true y f k d h = omega (arith, ap length h, length-append d (at ∷ rest))
+    go false false f k d h = omega (arith, ap length h, length-append d (at ∷ rest))
+    go false true f k [] h = omega (arith, (record_inside b before i f).above, ap (λ (l : List ℕ). get_or l 0 0) h)
+    go false true f k (x ∷ d) h = omega (arith, (record_inside b before i f).above, k d (ap (λ (l : List ℕ). drop 1 l) h))
 
 pub chain_is : (b : List ℕ) {t : Bool} → is_batch b ≡ t → chain_of b ≡ cond t (chain_from (length b) b 0 (word_at b 0)) (ends (Err NoBatch))
 unfolding chain_of
@@ -176,16 +175,13 @@ module _ {batch done : List ℕ} {rest : Chain} (w : Walk batch done rest) where
         ending = w.ending ∙ ap (λ (c : Chain). c.ending) e;
       }
 
-  -- Fewer are done than the batch has bytes.
-  pub walk_early : is_batch batch ≡ true → length done < length batch
-  walk_early e =
+  -- With the one that is next, no more are done than its index.
+  pub walk_last : is_batch batch ≡ true → {i : ℕ} {next : Chain} → rest ≡ onto i next → length done + 1 ≤ i
+  walk_last ok {i} {next} e =
       omega (
         arith,
-        (batch_size batch e).0,
-        chain_early (length batch) batch 0 (word_at batch 0) (omega (arith, (batch_size batch e).0)),
-        ap (λ (c : Chain). length c.indices) (chain_is batch e),
-        ap length w.indices,
-        length-append done rest.indices,
+        chain_last (length batch) batch 0 (word_at batch 0) done i next.indices
+            (sym (ap (λ (c : Chain). c.indices) (chain_is batch ok)) ∙ w.indices ∙ ap (λ (c : Chain). done ++ c.indices) e),
       )
 
   -- While one is left, fewer are done than a batch can have.

@@ -91,7 +91,7 @@ pub fn cut(s: &[u8], b: u8) -> (&[u8], &[u8])
     ensures first { result.0.now ≡ take (up_to b s.now) s.now }
     ensures rest { result.1.now ≡ drop (up_to b s.now + 1) s.now }
 {
-    // By cases: with `min` in the place of them a line that is empty takes one and a half times as long.
+    // By cases: with `min` in the place of them an empty line takes up to twice as long.
     let (n, next) = match s.iter().position(|&x| x == b) {
         Some(i) => (i, i + 1),
         None => (s.len(), s.len()),

@@ -86,10 +86,7 @@ impl<P: Print> Print for Tried<P> {
     fn println<D: Display + Drop>(&self, value: D) -> io::Result<()>
         ensures { IsOk result }
     {
-        let mut text = Unwritten::new(&self.0);
-        let _ = text.writeln(value);
-        text.finish();
-        Ok(())
+        self.print(format_args!("{value}\n"))
     }
 
     fn write_all(&self, bytes: &[u8]) -> io::Result<()>

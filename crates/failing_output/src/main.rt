@@ -1,5 +1,5 @@
-// What `Tried` prints to an output of which each write fails, by running it: all that there is to print. This one hands on what it is given, so that its end shows;
-// no other program has an output of which a write fails.
+// What `Tried` prints where each write fails, by running it: all that there is to print. The output of this program does write what it is given, and says that it
+// failed, so that what is tried behind a failure shows. No other program has an output of which a write fails.
 #![tactic(auto)]
 
 use console::show::{List, print_hex, print_line};
@@ -8,7 +8,7 @@ use std::fmt::Display;
 use std::io::{Error, ErrorKind, Print};
 use std::{io, str};
 
-// Each write is said to have failed.
+// An output that writes what it is given, and says that it failed.
 #[derive(Clone, Copy)]
 struct Failing<P>(P);
 
@@ -29,7 +29,7 @@ impl<P: Print> Print for Failing<P> {
     }
 }
 
-// A line by pieces; one of more than 1,024 bytes, of which none has as many; one with a piece that has more; and bytes past `fmt`. Short ones stand between them.
+// A line by three calls; a line of more bytes than `Tried` gathers, by short pieces; one with a piece that is longer than that; a line past `fmt`; and a short one.
 fn print_lines(rt: &impl Print) -> io::Result<()> {
     print!(rt; "{}", 1)?;
     print!(rt; " {}", 2)?;
