@@ -5,17 +5,23 @@
 use console::input::read_cases;
 use console::memory::filled;
 use console::show::{Replayed, print_line, replay};
+use std::io;
 use std::io::Print;
 
 mod expanding;
+
+// What `roll` prints of a batch. Where `batch_line` made the text itself, it would be zeroed twice.
+fn print_batch(rt: &impl Print, batch: &[u8]) -> io::Result<()> {
+    let mut text = [0u8; 350000];
+    let len = reporting::roll_batch(batch, &mut text);
+    rt.write_all(&text[..len])
+}
 
 // A batch may have one byte more than question 24 allows.
 fn batch_line(rt: &impl Print, line: &[u8]) -> Replayed {
     let mut batch: [u8; 65537] = filled(0);
     let n = expanding::expand(line, &mut batch)?;
-    let mut text = [0u8; 350000];
-    let len = reporting::roll_batch(&batch[..n], &mut text);
-    Some(rt.write_all(&text[..len]))
+    Some(print_batch(rt, &batch[..n]))
 }
 
 // A line that starts with `#` is a remark. One with no bytes is a batch with none.
