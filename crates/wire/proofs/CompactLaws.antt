@@ -15,13 +15,17 @@ use Rattle.wire.specs.Fields.{TagPost, TakePost, DelimitedPost}
 use Rattle.wire.proofs.VarintLaws.{varint_last, varint_more}
 use Rattle.wire.proofs.ReadingLaws.{varint32_small, tag_good, delimited_taken}
 
+-- Of what `small` promises, all but the place behind the byte.
+pub small_value : {s : List ℕ} {at v : ℕ} {c : Cursor} → VarintPost s at (Ok (v, c)) × (c.at ≡ at + 1) × (v < 128) → VarintPost s at (Ok (v, c)) × (v < 128)
+small_value p = (p.0, p.2)
+
 -- A varint of one byte, as a tag and as a number of 32 bits.
-module _ {s : List ℕ} {at v : ℕ} {c : Cursor} (p : VarintPost s at (Ok (v, c)) × (c.at ≡ at + 1) × (v < 128)) where
+module _ {s : List ℕ} {at v : ℕ} {c : Cursor} (p : VarintPost s at (Ok (v, c)) × (v < 128)) where
   pub small_tag : 8 ≤ v → TagPost s at (Ok (v, c))
-  small_tag h = tag_good p.0 (omega (arith, p.2)) h
+  small_tag h = tag_good p.0 (omega (arith, p.1)) h
 
   pub small_number : Varint32Post s at (Ok (v, c))
-  small_number = varint32_small p.0 (omega (arith, p.2))
+  small_number = varint32_small p.0 (omega (arith, p.1))
 
   -- And as the length of the bytes that are taken behind it.
   pub small_bytes : {n : ℕ} {x : Part × Cursor} → n ≡ v → (r : Result (Part × Cursor) ReadError) → TakePost s c.at n r → Some x ≡ result_ok r
