@@ -1,6 +1,6 @@
 // What the programs that replay cases print, mostly by `fmt`. Of this a contract says the text of `Hex` alone, where it is no error: an error is the writer's, and
 // nothing is said of it. `print_hex` writes what `hex` makes, of which one says the text, too.
-ghost use Rattle.std.specs.Prelude.{◌≡◌, ◌*◌, ◌≤◌, Some, length};
+ghost use Rattle.std.specs.Prelude.{◌≡◌, ◌*◌, ◌≤◌, ◌⊎◌, Some, IsOk, IsErr, length};
 ghost use Rattle.console.specs.Output.{hex_text};
 
 use crate::input::Pieces;
@@ -81,9 +81,18 @@ impl fmt::Display for Touched<'_> {
 }
 
 // Bytes as they are, and a newline: what is printed of a remark. It cannot fail, as `print_hex`, and goes past the buffer of `fmt`, too.
-pub fn print_line(rt: &impl Print, line: &[u8]) {
+pub fn print_remark(rt: &impl Print, line: &[u8]) {
     let _ = rt.write_all(line);
     let _ = rt.write_all(b"\n");
+}
+
+// The same, and whether it was written: behind a write that fails nothing more is tried. The answer is the writer's, of which the library's `Print` says nothing, so
+// that it can be any.
+pub fn print_line(rt: &impl Print, line: &[u8]) -> io::Result<()>
+    ensures { IsOk result ⊎ IsErr result }
+{
+    rt.write_all(line)?;
+    println!(rt; "")
 }
 
 // What a case came to: `None` where the text is no case, since it has not the operands that it should have; else what came of its last write, which `Tried` passes over.

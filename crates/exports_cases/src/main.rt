@@ -6,7 +6,7 @@
 use batch::unpacking;
 use console::input::{cut, read_bytes, read_cases, read_number};
 use console::memory::filled;
-use console::show::{Hex, Replayed, print_hex, print_line, replay};
+use console::show::{Hex, Replayed, print_hex, print_remark, replay};
 use console::text::word;
 use console::tried::Tried;
 use exports::packing;
@@ -78,7 +78,7 @@ fn numbered(rt: &impl Print, lines: &[u8]) -> Replayed {
 }
 
 fn case(rt: &impl Print, lines: &[u8]) -> Replayed {
-    print_line(rt, cut(lines, b'\n').0);
+    print_remark(rt, cut(lines, b'\n').0);
     numbered(rt, lines)
 }
 

@@ -1,8 +1,8 @@
 // What `Tried` prints where each write fails, by running it: all that there is to print. The output of this program does write what it is given, and says that it
-// failed, so that what is tried behind a failure shows. No other program has an output of which a write fails.
+// failed, so that what is tried behind a failure shows. No other program but `printed_line` has an output of which a write fails.
 #![tactic(auto)]
 
-use console::show::{List, print_hex, print_line};
+use console::show::{List, print_hex, print_remark};
 use console::tried::Tried;
 use std::fmt::Display;
 use std::io::{Error, ErrorKind, Print};
@@ -44,7 +44,7 @@ fn print_lines(rt: &impl Print) -> io::Result<()> {
         str::from_utf8(&bytes).unwrap_or("")
     )?;
     print_hex(rt, &bytes);
-    print_line(rt, b" and what stands behind it");
+    print_remark(rt, b" and what stands behind it");
     println!(rt; "{}", 4)
 }
 

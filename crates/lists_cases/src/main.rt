@@ -10,7 +10,7 @@ ghost use Rattle.lists_cases.specs.Tests.{Mergeable, Insertable};
 
 use console::input::{read_bytes, read_cases};
 use console::memory::filled;
-use console::show::{FILL, Hex, List, Replayed, Touched, print_hex, print_line, replay};
+use console::show::{FILL, Hex, List, Replayed, Touched, print_hex, print_remark, replay};
 use console::text::{precision, read_list, read_value, word};
 use console::tried::Tried;
 use lists::merging::Merged;
@@ -247,7 +247,7 @@ fn pair(line: &[u8]) -> Option<Sparse> {
 fn case(rt: &impl Print, line: &[u8]) -> Replayed {
     match *line.first()? {
         b'#' => {
-            print_line(rt, line);
+            print_remark(rt, line);
             Some(Ok(()))
         }
         b'v' => value_case(rt, pair(line)?, line),

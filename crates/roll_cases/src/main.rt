@@ -4,7 +4,7 @@
 
 use console::input::read_cases;
 use console::memory::filled;
-use console::show::{Replayed, print_line, replay};
+use console::show::{Replayed, print_remark, replay};
 use std::io;
 use std::io::Print;
 
@@ -28,7 +28,7 @@ fn batch_line(rt: &impl Print, line: &[u8]) -> Replayed {
 fn case(rt: &impl Print, line: &[u8]) -> Replayed {
     match line {
         [b'#', ..] => {
-            print_line(rt, line);
+            print_remark(rt, line);
             Some(Ok(()))
         }
         _ => batch_line(rt, line),

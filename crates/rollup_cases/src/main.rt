@@ -7,7 +7,7 @@ ghost use Rattle.rollup.specs.Refusals.{length_of};
 
 use console::input::{cut, read_bytes, read_cases};
 use console::memory::filled;
-use console::show::{FILL, Replayed, bad_case, print_line};
+use console::show::{FILL, Replayed, bad_case, print_remark};
 use console::text::{number, precision, read_list, word};
 use console::tried::Tried;
 use rollup::accumulator::{Accumulator, Form};
@@ -145,7 +145,7 @@ fn case(rt: &impl Print, head: &mut Accumulator, memory: &mut Memory, line: &[u8
         b'w' => read_list(word(line, 1), memory.pending).map(|_| println!(rt; "ok")),
         b'q' => Some(answers::print_asked(rt, *head)),
         b'#' => {
-            print_line(rt, line);
+            print_remark(rt, line);
             Some(Ok(()))
         }
         _ => None,
@@ -209,7 +209,7 @@ fn roll_up<'a>(rt: &impl Print, text: &'a [u8]) -> &'a [u8]
     if text[0] == b'n' {
         return new_line(rt, rest, line);
     }
-    print_line(rt, line);
+    print_remark(rt, line);
     rest
 }
 

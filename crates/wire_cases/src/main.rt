@@ -4,7 +4,7 @@
 
 use console::input::{cut, read_bytes, read_cases, read_number};
 use console::memory::filled;
-use console::show::{FILL, Hex, Replayed, Touched, print_hex, print_line, replay};
+use console::show::{FILL, Hex, Replayed, Touched, print_hex, print_remark, replay};
 use console::text::{read_value, word};
 use console::tried::Tried;
 use std::io::Print;
@@ -114,7 +114,7 @@ fn case(rt: &impl Print, line: &[u8]) -> Replayed {
     let rest = line.get(2..).unwrap_or(&[]);
     match *line.first()? {
         b'#' => {
-            print_line(rt, line);
+            print_remark(rt, line);
             Some(Ok(()))
         }
         b'p' => with_bytes(rest, |bytes| parse_case(rt, bytes)),
